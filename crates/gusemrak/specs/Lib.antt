@@ -1,0 +1,2 @@
+-- The face for C and Rust: its answer struct.
+pub mod Face

@@ -1,0 +1,185 @@
+//! The proved library through its C face. A function whose feature is off has not landed and answers `None`.
+
+use crate::engine::{Answer, Engine};
+
+/// `gusemrak_answer` of the C face.
+#[cfg(any(
+    feature = "f-check-book",
+    feature = "f-compile",
+    feature = "f-check-image",
+    feature = "f-questions",
+    feature = "f-step",
+    feature = "f-run",
+    feature = "f-short-list",
+    feature = "f-part"
+))]
+#[repr(C)]
+struct GusemrakAnswer {
+    number: u32,
+    place: u32,
+    a: u64,
+    b: u64,
+    c: u64,
+    d: u64,
+}
+
+#[cfg(any(
+    feature = "f-check-book",
+    feature = "f-compile",
+    feature = "f-check-image",
+    feature = "f-questions",
+    feature = "f-step",
+    feature = "f-run",
+    feature = "f-short-list",
+    feature = "f-part"
+))]
+fn answer(from: GusemrakAnswer) -> Option<Answer> {
+    Some(Answer { number: from.number, place: from.place, a: from.a, b: from.b, c: from.c, d: from.d })
+}
+
+extern "C" {
+    #[cfg(feature = "f-check-book")]
+    fn gusemrak_check_book(book: *const u8, n: usize) -> GusemrakAnswer;
+    #[cfg(feature = "f-compile")]
+    fn gusemrak_compile(book: *const u8, n: usize, out: *mut u8, room: usize) -> GusemrakAnswer;
+    #[cfg(feature = "f-check-image")]
+    fn gusemrak_check_image(image: *const u8, n: usize) -> GusemrakAnswer;
+    #[cfg(feature = "f-questions")]
+    fn gusemrak_fallback(image: *const u8, n: usize, place: u32) -> GusemrakAnswer;
+    #[cfg(feature = "f-questions")]
+    fn gusemrak_level(image: *const u8, n: usize, place: u32) -> GusemrakAnswer;
+    #[cfg(feature = "f-questions")]
+    fn gusemrak_mark(image: *const u8, n: usize, place: u32) -> GusemrakAnswer;
+    #[cfg(feature = "f-questions")]
+    fn gusemrak_edge(image: *const u8, n: usize, place: u32, event: u8) -> GusemrakAnswer;
+    #[cfg(feature = "f-step")]
+    fn gusemrak_step(image: *const u8, n: usize, place: u32, event: u8) -> GusemrakAnswer;
+    #[cfg(feature = "f-run")]
+    fn gusemrak_run(
+        image: *const u8,
+        n: usize,
+        place: u32,
+        base: u32,
+        log: *const u8,
+        nlog: usize,
+        out: *mut u8,
+        room: usize,
+    ) -> GusemrakAnswer;
+    #[cfg(feature = "f-short-list")]
+    fn gusemrak_short_list(list: *const u8, n: usize, out: *mut u8, room: usize) -> GusemrakAnswer;
+    #[cfg(feature = "f-part")]
+    fn gusemrak_part(log: *const u8, nlog: usize, base: u32, end: u32, length: u32) -> GusemrakAnswer;
+    #[cfg(feature = "f-group")]
+    fn gusemrak_group(event: u8) -> u8;
+}
+
+/// A landed function's answer, or `None`; the arguments of one that has not landed are not looked at.
+macro_rules! landed {
+    ($feature:literal, $call:expr, $($argument:expr),+) => {{
+        #[cfg(feature = $feature)]
+        let answered = $call;
+        #[cfg(not(feature = $feature))]
+        let answered = {
+            let _ = ($($argument,)+);
+            None
+        };
+        answered
+    }};
+}
+
+pub struct Proved;
+
+// SAFETY of every call below: pointer and length are those of one live slice, and the C face reads a `const` pointer
+// and writes a lent one inside that length only. The guards around lent memory test the latter.
+impl Engine for Proved {
+    fn name(&self) -> &'static str {
+        "proved"
+    }
+    fn check_book(&self, book: &[u8]) -> Option<Answer> {
+        landed!("f-check-book", answer(unsafe { gusemrak_check_book(book.as_ptr(), book.len()) }), book)
+    }
+    fn compile(&self, book: &[u8], out: &mut [u8]) -> Option<Answer> {
+        landed!(
+            "f-compile",
+            answer(unsafe { gusemrak_compile(book.as_ptr(), book.len(), out.as_mut_ptr(), out.len()) }),
+            book,
+            out
+        )
+    }
+    fn check_image(&self, image: &[u8]) -> Option<Answer> {
+        landed!("f-check-image", answer(unsafe { gusemrak_check_image(image.as_ptr(), image.len()) }), image)
+    }
+    fn fallback(&self, image: &[u8], place: u32) -> Option<Answer> {
+        landed!("f-questions", answer(unsafe { gusemrak_fallback(image.as_ptr(), image.len(), place) }), image, place)
+    }
+    fn level(&self, image: &[u8], place: u32) -> Option<Answer> {
+        landed!("f-questions", answer(unsafe { gusemrak_level(image.as_ptr(), image.len(), place) }), image, place)
+    }
+    fn mark(&self, image: &[u8], place: u32) -> Option<Answer> {
+        landed!("f-questions", answer(unsafe { gusemrak_mark(image.as_ptr(), image.len(), place) }), image, place)
+    }
+    fn edge(&self, image: &[u8], place: u32, event: u8) -> Option<Answer> {
+        landed!(
+            "f-questions",
+            answer(unsafe { gusemrak_edge(image.as_ptr(), image.len(), place, event) }),
+            image,
+            place,
+            event
+        )
+    }
+    fn step(&self, image: &[u8], place: u32, event: u8) -> Option<Answer> {
+        landed!(
+            "f-step",
+            answer(unsafe { gusemrak_step(image.as_ptr(), image.len(), place, event) }),
+            image,
+            place,
+            event
+        )
+    }
+    fn run(&self, image: &[u8], place: u32, base: u32, log: &[u8], out: &mut [u8]) -> Option<Answer> {
+        landed!(
+            "f-run",
+            answer(unsafe {
+                gusemrak_run(
+                    image.as_ptr(),
+                    image.len(),
+                    place,
+                    base,
+                    log.as_ptr(),
+                    log.len(),
+                    out.as_mut_ptr(),
+                    out.len(),
+                )
+            }),
+            image,
+            place,
+            base,
+            log,
+            out
+        )
+    }
+    fn short_list(&self, list: &[u8], out: &mut [u8]) -> Option<Answer> {
+        landed!(
+            "f-short-list",
+            answer(unsafe { gusemrak_short_list(list.as_ptr(), list.len(), out.as_mut_ptr(), out.len()) }),
+            list,
+            out
+        )
+    }
+    fn part(&self, log: &[u8], base: u32, end: u32, length: u32) -> Option<Answer> {
+        landed!(
+            "f-part",
+            answer(unsafe { gusemrak_part(log.as_ptr(), log.len(), base, end, length) }),
+            log,
+            base,
+            end,
+            length
+        )
+    }
+    fn group(&self, event: u8) -> Option<u8> {
+        landed!("f-group", Some(unsafe { gusemrak_group(event) }), event)
+    }
+    fn listing(&self, _book: &[u8], _log: &[u8]) -> Option<String> {
+        None
+    }
+}
