@@ -26,6 +26,11 @@ impl Lent {
         &self.bytes[GUARD..self.bytes.len() - GUARD]
     }
 
+    /// Everything, guards and all.
+    pub fn whole(&self) -> &[u8] {
+        &self.bytes
+    }
+
     /// What is wrong, if the room does not begin with `written` or anything else has changed.
     pub fn fault(&self, written: &[u8]) -> Option<String> {
         let room = self.bytes.len() - 2 * GUARD;
