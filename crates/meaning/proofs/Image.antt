@@ -14,7 +14,7 @@ use Rattle.meaning.specs.Choice.{then}
 use Rattle.meaning.specs.Text.{Text, Delta, Marks}
 use Rattle.meaning.specs.Chain.{Live, live, Chain, IsChain, step, steps, chain, head, level, rest}
 use Rattle.meaning.specs.Places.{number, Reachable, Numbers}
-use Rattle.meaning.specs.Questions.{edgeOf, Levels, imageOf}
+use Rattle.meaning.specs.Questions.{edgeOf, Levels, imageOf, named}
 use Rattle.meaning.specs.Walk.{Stand, stand, next, walk}
 use Rattle.meaning.proofs.Chain.{chain-is}
 use Rattle.meaning.proofs.Book.{Names, Only}
@@ -26,7 +26,7 @@ use Rattle.meaning.proofs.Places.{number-whole, whole-of-numbers, numbe
 use Rattle.meaning.proofs.Rest.{Away}
 use Rattle.meaning.proofs.Rules.{whole, whole-rule, bare, bare-rule}
 use Rattle.meaning.proofs.Shows.{Shows, same-placeBy, fallbackBy-at, target-away, shows-has, shows-levels}
-use Rattle.meaning.proofs.Shows.{named, shows-named, shows-next, shows-walk, shows-text}
+use Rattle.meaning.proofs.Shows.{shows-named, shows-next, shows-walk, shows-text}
 
 module _ (L : List Chain) (i d q r : ℕ) (l : i < length L) (k : d < length L) where
   -- with reaches, head, level and fallback tell a chain met again

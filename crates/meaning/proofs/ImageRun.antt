@@ -20,7 +20,7 @@ use Rattle.meaning.specs.Chain.{Chain, step, chain}
 use Rattle.meaning.specs.Places.{number, Numbers}
 use Rattle.meaning.specs.Questions.{imageOf}
 use Rattle.meaning.specs.Walk.{Stand, stand, next, walk}
-use Rattle.meaning.specs.Records.{Record, recordsAt, Outcome, run}
+use Rattle.meaning.specs.Records.{Record, recordsAt, Outcome, run, hit, endingAt}
 use Rattle.meaning.proofs.Cases.{by-bool}
 use Rattle.meaning.proofs.Text.{events-nil, events-cons, events-snoc}
 use Rattle.meaning.proofs.Chain.{chain-snoc}
@@ -28,7 +28,7 @@ use Rattle.meaning.proofs.Book.{Names, Only, Rising, Under}
 use Rattle.meaning.proofs.Fails.{fails, allFails}
 use Rattle.meaning.proofs.Image.{image-next}
 use Rattle.meaning.proofs.Places.{number-zero}
-use Rattle.meaning.proofs.Records.{hits, hit, Right, hits-right, ends-mem, nothing-chain}
+use Rattle.meaning.proofs.Records.{hits, Right, hits-right, ends-mem, nothing-chain}
 use Rattle.meaning.proofs.Records.{image-records, image-records-few}
 use Rattle.meaning.proofs.Run.{listing, run-walk, run-records, run-taken, run-moves}
 use Rattle.meaning.proofs.Small.{chain-short}
@@ -102,11 +102,6 @@ report-nothing δ mark no-edge e s [] = refl
 report-nothing δ mark no-edge e s (a ∷ log) =
     let u = s ++ (a ∷ []) in
     λ i. hits mark (suc e) (nothing-chain δ no-edge (events u) i) ++ report-nothing δ mark no-edge (suc e) u log i
-
--- the records of a list that end at m
-abbrev pub endingAt : ℕ → List Record → List Record
-endingAt m [] = []
-endingAt m (h ∷ rs) = when (eqb (h .end) m) (h ∷ endingAt m rs) (endingAt m rs)
 
 ending-append : (m : ℕ) (rs ss : List Record) → endingAt m (rs ++ ss) ≡ endingAt m rs ++ endingAt m ss
 ending-append m [] ss = refl

@@ -20,7 +20,7 @@ use Rattle.meaning.specs.Chain.{Live, live, Chain, Once, step, steps, ch
 use Rattle.meaning.specs.Places.{number, Reachable, Numbers}
 use Rattle.meaning.specs.Book.{state, delta}
 use Rattle.meaning.specs.Questions.{Image, imageOf}
-use Rattle.meaning.specs.Records.{Record, recorded, shown, unlessQuiet, recordsWithin, recordsAt}
+use Rattle.meaning.specs.Records.{Record, recorded, shown, unlessQuiet, recordsWithin, recordsAt, marked, hit}
 use Rattle.meaning.proofs.Cases.{by-bool, by-eq}
 use Rattle.meaning.proofs.Book.{Names, Only}
 use Rattle.meaning.proofs.Chain.{chain-is, chain-has, alive-reach}
@@ -133,15 +133,6 @@ records-same M e d p = within-same M e d p p
 abbrev pub hits : Marks → ℕ → Chain → List Record
 hits mark e [] = []
 hits mark e (x ∷ c) = unlessQuiet e (x .reach) (mark (x .state)) (hits mark e c)
-
--- the marked members of a chain
-abbrev pub marked : Marks → Chain → Chain
-marked mark [] = []
-marked mark (x ∷ c) = when (eqb (mark (x .state)) 0) (marked mark c) (x ∷ marked mark c)
-
--- the record of a member
-abbrev pub hit : Marks → ℕ → Live → Record
-hit mark e x = recorded e (shown (x .reach)) (mark (x .state))
 
 module _ (mark : Marks) where
   -- ONE RECORD EACH, in the chain's order

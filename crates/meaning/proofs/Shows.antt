@@ -16,7 +16,7 @@ use Rattle.meaning.specs.Choice.{when, then}
 use Rattle.meaning.specs.Text.{Text, Delta, Marks}
 use Rattle.meaning.specs.Chain.{Live, live, Chain, step, steps, chain, head, level, rest}
 use Rattle.meaning.specs.Places.{Reachable}
-use Rattle.meaning.specs.Questions.{Image, edgeOf, Levels}
+use Rattle.meaning.specs.Questions.{Image, edgeOf, Levels, namedWithin}
 use Rattle.meaning.specs.Walk.{Stand, stand, take-edge, failing, next, walk}
 use Rattle.meaning.proofs.Cases.{by-option, none-some}
 use Rattle.meaning.proofs.Chain.{chain-snoc}
@@ -59,14 +59,6 @@ imageBy-shows key δ mark L =
       marks = λ p l. refl;
       edges = λ p a l. by-option (δ (head (getD L p [])) a) (λ e. rw e) (λ q e. rw e);
     }
-
--- the chain that a place names: its head and level, then what its fallback names, with at most f fallbacks
-abbrev pub namedWithin : ℕ → (ℕ → ℕ) → Image → ℕ → Chain
-namedWithin zero heads M p = []
-namedWithin (suc f) heads M p = when (eqb p 0) [] (live (heads p) (M .level p) ∷ namedWithin f heads M (M .fallback p))
-
-abbrev pub named : (ℕ → ℕ) → Image → ℕ → Chain
-named heads M p = namedWithin p heads M p
 
 module _ (key : Key) (δ : Delta) (R : Rule key δ) (L : List Chain) (O : Ordered key L) where
   -- in a list of distinct chains a place is its chain's number

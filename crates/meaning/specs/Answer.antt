@@ -6,10 +6,13 @@
 --   rule n b p          refused n at p where the test b holds
 --   ruleAt n o          refused n at the place o, where there is one
 --   judged rs x         what the first broken rule refuses; x where none is broken
+--   leaving x out bs    the lent memory afterwards: a refusal changes nothing, a success writes bs from the start on and leaves
+--                       what is past them
 use mathlib.Core.Bool.{Bool, true, false}
 use mathlib.Core.Option.{Option, none, some}
 use mathlib.Core.List.{List, [], _∷_}
 use Prim.Native.Nat.{ℕ}
+use lib.Seq.{sets}
 use Rattle.meaning.specs.Choice.{when}
 
 pub data Answer : Type 0 where
@@ -34,3 +37,7 @@ faulty n (some p) x = refused n p
 abbrev pub judged : List Rule → Answer → Answer
 judged [] x = x
 judged (r ∷ rs) x = faulty (r .number) (r .fault) (judged rs x)
+
+abbrev pub leaving : Answer → List ℕ → List ℕ → List ℕ
+leaving (accepted a b c d) out bs = sets out 0 bs
+leaving (refused n p) out bs = out

@@ -2,6 +2,7 @@
 --   Image               place count; fallback, level and mark of a place; the number of a place's edge; an edge's target
 --   edgeOf M p a        the target of the place's edge with the event, or none
 --   Levels M            what an accepted image's records obey of their levels
+--   named heads M p     the chain that a place and its fallbacks name: their heads with their levels
 --   imageOf δ out mark L   the image of a book whose chains L numbers: a place has exactly the edges of its head state
 use mathlib.Core.Path.{_≡_}
 use mathlib.Core.Logic.{_≢_}
@@ -13,7 +14,7 @@ use lib.ListN.{length, getD}
 use lib.Dec.{eqb}
 use Rattle.meaning.specs.Choice.{when, then}
 use Rattle.meaning.specs.Text.{Delta, Marks}
-use Rattle.meaning.specs.Chain.{Chain, step, head, level, rest}
+use Rattle.meaning.specs.Chain.{Chain, live, step, head, level, rest}
 use Rattle.meaning.specs.Places.{number}
 
 pub record Image : Type 0 where
@@ -33,6 +34,14 @@ pub record Levels (M : Image) : Type 0 where
   pub lower : (p : ℕ) → p < M .count → p ≢ 0 → M .fallback p < p
   pub above : (p : ℕ) → p < M .count → p ≢ 0 → M .level (M .fallback p) < M .level p
   pub target : (p a q : ℕ) → p < M .count → edgeOf M p a ≡ some q → (q < M .count) × (M .level q ≤ suc (M .level p))
+
+-- with at most f fallbacks
+abbrev pub namedWithin : ℕ → (ℕ → ℕ) → Image → ℕ → Chain
+namedWithin zero heads M p = []
+namedWithin (suc f) heads M p = when (eqb p 0) [] (live (heads p) (M .level p) ∷ namedWithin f heads M (M .fallback p))
+
+abbrev pub named : (ℕ → ℕ) → Image → ℕ → Chain
+named heads M p = namedWithin p heads M p
 
 -- where the event stands in a list of events, counted on from j
 abbrev pub indexFrom : ℕ → List ℕ → ℕ → Option ℕ

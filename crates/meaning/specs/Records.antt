@@ -3,6 +3,8 @@
 --   recordsAt M e p     the records of an event that leads to the place p: one for every place on the chain with a marked
 --                       head, in chain order
 --   Outcome             what a run comes to: events taken, place, records, failure steps
+--   hit, marked         the record of a live state; the marked states of a chain
+--   endingAt e rs       the records of a list with the end e
 --   run M room e p log  the run from the place p after e events, with room for so many records
 use mathlib.Core.Bool.{Bool, true, false}
 use mathlib.Core.List.{List, [], _∷_, _++_}
@@ -10,6 +12,8 @@ use Prim.Native.Nat.{ℕ, zero, suc, _+_, _-_}
 use lib.ListN.{length}
 use lib.Dec.{eqb, leb}
 use Rattle.meaning.specs.Choice.{when}
+use Rattle.meaning.specs.Text.{Marks}
+use Rattle.meaning.specs.Chain.{Live, Chain}
 use Rattle.meaning.specs.Questions.{Image}
 use Rattle.meaning.specs.Walk.{Stand, next}
 
@@ -36,6 +40,17 @@ recordsWithin (suc f) M e p = when (eqb p 0) [] (unlessQuiet e (M .level p) (M .
 
 unfoldable pub recordsAt : Image → ℕ → ℕ → List Record
 recordsAt M e p = recordsWithin p M e p
+
+abbrev pub hit : Marks → ℕ → Live → Record
+hit mark e x = recorded e (shown (x .reach)) (mark (x .state))
+
+abbrev pub marked : Marks → Chain → Chain
+marked mark [] = []
+marked mark (x ∷ c) = when (eqb (mark (x .state)) 0) (marked mark c) (x ∷ marked mark c)
+
+abbrev pub endingAt : ℕ → List Record → List Record
+endingAt e [] = []
+endingAt e (r ∷ rs) = when (eqb (r .end) e) (r ∷ endingAt e rs) (endingAt e rs)
 
 pub record Outcome : Type 0 where
   pub taken : ℕ
