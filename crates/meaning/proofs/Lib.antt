@@ -19,5 +19,6 @@ pub mod Image
 pub mod Small
 pub mod Records
 pub mod Run
+pub mod Same
 pub mod ImageRun
 pub mod Loops
