@@ -16,13 +16,13 @@ const RECORD: usize = 8;
 
 pub enum Short {
     Kept(usize),
-    Refused { number: usize, place: usize },
+    Refused { number: u32, place: u32 },
 }
 
 // The part that an end and a length name, by its offset in the log and its length there.
 pub enum Named {
     Fine { offset: usize, length: usize },
-    Refused { number: usize, place: usize },
+    Refused { number: u32, place: u32 },
 }
 
 // How many of the `left` records from `at` on are kept, where `before` is the end just before them.

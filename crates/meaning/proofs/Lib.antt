@@ -2,7 +2,6 @@
 -- gone wrong shows there.
 pub mod Examples
 pub mod Cases
-pub mod Answer
 pub mod Text
 pub mod Chain
 pub mod Fails

@@ -121,7 +121,7 @@ fn tables(file: &[u8]) -> Result<Tables, Refusal> {
     let table = &file[file.len() - distance..];
     let record = |number: usize| &table[4 * number..4 * number + 4];
     let states = (0..state_count)
-        .map(|state| record(state))
+        .map(record)
         .map(|bytes| StateRecord { mark: bytes[0], zero: bytes[1], edge_count: number16(bytes, 2) })
         .collect();
     let edges = (0..edge_count)

@@ -107,8 +107,7 @@ pub fn image_bytes(book: &Book, places: &[Place]) -> Vec<u8> {
         put16(&mut bytes, *target);
     }
     let distance = image_length(places.len(), first_edge) as u64;
-    let trailer =
-        Trailer { distance, first_count: places.len(), edge_count: first_edge, form: 1, letters: *b"SM" };
+    let trailer = Trailer { distance, first_count: places.len(), edge_count: first_edge, form: 1, letters: *b"SM" };
     put_trailer(&mut bytes, &trailer);
     bytes
 }

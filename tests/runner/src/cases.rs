@@ -11,22 +11,69 @@ pub type Bytes = Vec<u8>;
 /// What is called, with every input in bytes.
 #[derive(Clone, Debug)]
 pub enum Call {
-    CheckBook { book: Bytes },
+    CheckBook {
+        book: Bytes,
+    },
     /// `first` is a book compiled before, whose compile must leave no trace.
-    Compile { book: Bytes, room: usize, first: Option<Bytes> },
-    CheckImage { image: Bytes },
-    Fallback { image: Bytes, place: u32 },
-    Level { image: Bytes, place: u32 },
-    Mark { image: Bytes, place: u32 },
-    Edge { image: Bytes, place: u32, event: u8 },
-    Step { image: Bytes, place: u32, event: u8 },
-    Run { image: Bytes, place: u32, base: u32, log: Bytes, room: usize },
-    ShortList { list: Bytes, room: usize },
-    Part { log: Bytes, base: u32, end: u32, length: u32 },
-    Group { events: Vec<u8> },
+    Compile {
+        book: Bytes,
+        room: usize,
+        first: Option<Bytes>,
+    },
+    CheckImage {
+        image: Bytes,
+    },
+    Fallback {
+        image: Bytes,
+        place: u32,
+    },
+    Level {
+        image: Bytes,
+        place: u32,
+    },
+    Mark {
+        image: Bytes,
+        place: u32,
+    },
+    Edge {
+        image: Bytes,
+        place: u32,
+        event: u8,
+    },
+    Step {
+        image: Bytes,
+        place: u32,
+        event: u8,
+    },
+    Run {
+        image: Bytes,
+        place: u32,
+        base: u32,
+        log: Bytes,
+        room: usize,
+    },
+    ShortList {
+        list: Bytes,
+        room: usize,
+    },
+    Part {
+        log: Bytes,
+        base: u32,
+        end: u32,
+        length: u32,
+    },
+    Group {
+        events: Vec<u8>,
+    },
     /// The chain of a text, as the image's place and its fallbacks name it.
-    Chain { book: Bytes, text: Bytes },
-    Listing { book: Bytes, log: Bytes },
+    Chain {
+        book: Bytes,
+        text: Bytes,
+    },
+    Listing {
+        book: Bytes,
+        log: Bytes,
+    },
 }
 
 /// What must stand in lent memory after a success.
@@ -377,9 +424,7 @@ impl Cases {
             }
             ("event", [event]) => once(&mut draft.events, range(event, hex_byte)?, word),
 
-            ("refused", [refusal, "at", place]) => {
-                once(&mut draft.refused, (number(refusal)?, number(place)?), word)
-            }
+            ("refused", [refusal, "at", place]) => once(&mut draft.refused, (number(refusal)?, number(place)?), word),
             ("answer", ["none"]) => once(&mut draft.answer, Vec::new(), word),
             ("answer", pairs) if pairs.len() % 2 == 0 && !pairs.is_empty() => {
                 let pairs = pairs.chunks(2).map(|pair| (pair[0].to_string(), pair[1].to_string())).collect();
@@ -488,7 +533,8 @@ impl Draft {
         let mut given = self.answer.take().ok_or("the answer is missing")?;
         let mut values = [0; 4];
         for (value, name) in values.iter_mut().zip(names) {
-            let at = given.iter().position(|pair| pair.0 == *name).ok_or(format!("the answer's '{name}' is missing"))?;
+            let at =
+                given.iter().position(|pair| pair.0 == *name).ok_or(format!("the answer's '{name}' is missing"))?;
             *value = number(&given.remove(at).1)?;
         }
         match given.first() {
@@ -500,23 +546,17 @@ impl Draft {
     fn call(&mut self, name: &str) -> Read<Call> {
         Ok(match name {
             "check_book" => Call::CheckBook { book: self.take_book()? },
-            "compile" => {
-                Call::Compile { book: self.take_book()?, room: self.take_room()?, first: self.first.take() }
-            }
+            "compile" => Call::Compile { book: self.take_book()?, room: self.take_room()?, first: self.first.take() },
             "check_image" => Call::CheckImage { image: self.take_image()? },
             "fallback" => Call::Fallback { image: self.take_image()?, place: self.take_number("place")? },
             "level" => Call::Level { image: self.take_image()?, place: self.take_number("place")? },
             "mark" => Call::Mark { image: self.take_image()?, place: self.take_number("place")? },
-            "edge" => Call::Edge {
-                image: self.take_image()?,
-                place: self.take_number("place")?,
-                event: self.take_event()?,
-            },
-            "step" => Call::Step {
-                image: self.take_image()?,
-                place: self.take_number("place")?,
-                event: self.take_event()?,
-            },
+            "edge" => {
+                Call::Edge { image: self.take_image()?, place: self.take_number("place")?, event: self.take_event()? }
+            }
+            "step" => {
+                Call::Step { image: self.take_image()?, place: self.take_number("place")?, event: self.take_event()? }
+            }
             "run" => Call::Run {
                 image: self.take_image()?,
                 place: self.take_number("place")?,

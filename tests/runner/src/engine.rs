@@ -28,7 +28,8 @@ pub trait Engine {
     /// a offset in the log, b length.
     fn part(&self, log: &[u8], base: u32, end: u32, length: u32) -> Option<Answer>;
     fn group(&self, event: u8) -> Option<u8>;
-    /// What the program `list` prints. It is no function of the library: the oracle alone has it here.
+    /// What the program `list` prints for these two files; empty ones stand for missing ones too. It is no function
+    /// of the library, but a program above it.
     fn listing(&self, book: &[u8], log: &[u8]) -> Option<String>;
 }
 

@@ -189,23 +189,40 @@ fn judge_answer(
             got
         }
         Call::Compile { book, room, first } => {
-            return lending(engine, *room, expected, wrote.expect("a compile writes"), |got| got.a, |engine, out| {
-                if let Some(first) = first {
-                    engine.compile(first, &mut vec![0; 30_732])?;
-                }
-                engine.compile(book, out)
-            });
+            return lending(
+                engine,
+                *room,
+                expected,
+                wrote.expect("a compile writes"),
+                |got| got.a,
+                |engine, out| {
+                    if let Some(first) = first {
+                        engine.compile(first, &mut vec![0; 30_732])?;
+                    }
+                    engine.compile(book, out)
+                },
+            );
         }
         Call::Run { image, place, base, log, room } => {
-            return lending(engine, *room, expected, wrote.expect("a run writes"), |got| 8 * got.c, |engine, out| {
-                engine.run(image, *place, *base, log, out)
-            });
+            return lending(
+                engine,
+                *room,
+                expected,
+                wrote.expect("a run writes"),
+                |got| 8 * got.c,
+                |engine, out| engine.run(image, *place, *base, log, out),
+            );
         }
         Call::ShortList { list, room } => {
             let wrote = wrote.expect("a short list is written");
-            return lending(engine, *room, expected, wrote, |got| 8 * got.a, |engine, out| {
-                engine.short_list(list, out)
-            });
+            return lending(
+                engine,
+                *room,
+                expected,
+                wrote,
+                |got| 8 * got.a,
+                |engine, out| engine.short_list(list, out),
+            );
         }
         Call::Group { .. } | Call::Chain { .. } | Call::Listing { .. } => unreachable!("judged by other means"),
     };

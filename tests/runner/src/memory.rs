@@ -12,7 +12,8 @@ impl Lent {
     /// A buffer of so many bytes. Patterns of unlike `seed` differ at every byte when their seeds' bits all differ,
     /// so a byte that one pattern hides shows under another.
     pub fn new(room: usize, seed: u8) -> Lent {
-        let before: Vec<u8> = (0..room + 2 * GUARD).map(|i| (i as u8).wrapping_mul(37).wrapping_add(11) ^ seed).collect();
+        let before: Vec<u8> =
+            (0..room + 2 * GUARD).map(|i| (i as u8).wrapping_mul(37).wrapping_add(11) ^ seed).collect();
         Lent { bytes: before.clone(), before }
     }
 

@@ -29,7 +29,7 @@ pub fn all() -> Vec<Property> {
         property("a run with less room is a beginning of the whole run", less_room_is_a_beginning),
         property("each record's part leads to a state with its mark, and no shorter one does", parts_of_records),
         property("the short list has one record for each end", short_lists),
-        property("a damaged book is read as its own bytes say, or refused by a number and place that fit", damage_is_judged),
+        property("a damaged book is read as its bytes say, or refused with a place that fits", damage_is_judged),
     ]
 }
 
@@ -265,9 +265,8 @@ fn parts_of_records(random: &mut Random) -> Held {
 fn short_lists(random: &mut Random) -> Held {
     for _ in 0..3_000 {
         let count = random.below(10);
-        let records: Vec<(u32, u16, u8, u8)> = (0..count)
-            .map(|_| (random.below(3) as u32, random.next() as u16, random.byte(), random.byte()))
-            .collect();
+        let records: Vec<(u32, u16, u8, u8)> =
+            (0..count).map(|_| (random.below(3) as u32, random.next() as u16, random.byte(), random.byte())).collect();
         let list = describe::list_bytes(&records);
         // A record goes exactly when the one before it in the list has its end.
         let mut kept = records.clone();

@@ -179,7 +179,40 @@ impl Engine for Proved {
     fn group(&self, event: u8) -> Option<u8> {
         landed!("f-group", Some(unsafe { gusemrak_group(event) }), event)
     }
-    fn listing(&self, _book: &[u8], _log: &[u8]) -> Option<String> {
-        None
+    fn listing(&self, book: &[u8], log: &[u8]) -> Option<String> {
+        landed!("f-list", Some(printed(book, log)), book, log)
+    }
+}
+
+/// What the program prints. An empty file and one that is not there must be the same to it: both are tried.
+#[cfg(feature = "f-list")]
+fn printed(book: &[u8], log: &[u8]) -> String {
+    let there = printed_in(book, log, true);
+    if !book.is_empty() && !log.is_empty() {
+        return there;
+    }
+    let missing = printed_in(book, log, false);
+    if there == missing {
+        there
+    } else {
+        format!("with empty files:\n{there}with missing files:\n{missing}")
+    }
+}
+
+#[cfg(feature = "f-list")]
+fn printed_in(book: &[u8], log: &[u8], write_empty: bool) -> String {
+    let program = std::env::var_os("GUSEMRAK_LIST").expect("GUSEMRAK_LIST names the program list");
+    let dir = std::env::temp_dir().join(format!("gusemrak-list-{}", std::process::id()));
+    std::fs::create_dir_all(&dir).expect("a folder for the two files");
+    for (name, contents) in [("book.sb", book), ("log.ev", log)] {
+        if write_empty || !contents.is_empty() {
+            std::fs::write(dir.join(name), contents).expect("a file for the program");
+        }
+    }
+    let printed = std::process::Command::new(program).current_dir(&dir).output();
+    std::fs::remove_dir_all(&dir).expect("the folder goes again");
+    match printed {
+        Ok(printed) => String::from_utf8_lossy(&printed.stdout).into_owned(),
+        Err(error) => format!("the program cannot be run: {error}"),
     }
 }

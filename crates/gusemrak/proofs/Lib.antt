@@ -1,0 +1,2 @@
+-- `Said`: what the face says of a call's answer.
+pub mod Said
