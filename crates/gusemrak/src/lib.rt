@@ -2,6 +2,7 @@
 ghost use mathlib.Core.Path.{_≡_};
 ghost use lib.ListN.{length};
 ghost use Rattle.meaning.specs.Answer.{accepted, refused};
+ghost use Rattle.book.specs.Rules.{checkBook};
 ghost use Rattle.lists.specs.Short.{shortAnswer, shortMemory};
 ghost use Rattle.lists.specs.Part.{partAnswer};
 ghost use Rattle.lists.specs.Group.{groupOf};
@@ -41,6 +42,17 @@ fn refusal(number: u32, place: u32) -> Answer
         b: 0,
         c: 0,
         d: 0,
+    }
+}
+
+// a: states, b: edges.
+#[no_mangle]
+pub extern "C" fn gusemrak_check_book(book: &[u8]) -> Answer
+    ensures { λ r. ⌜ r ≡ face (checkBook (now (book .entry))) ⌝ }
+{
+    match book::check_book(book) {
+        book::Checked::Fine { states, edges } => fine(states, edges, 0, 0),
+        book::Checked::Refused { number, place } => refusal(number, place),
     }
 }
 

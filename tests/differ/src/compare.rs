@@ -1,5 +1,6 @@
 //! One call on both engines: answers and lent memory must be the same, byte for byte. What comes out is counted.
 
+use guard::watch;
 use oracle::Answer;
 use runner::engine::{Engine, Oracle};
 use runner::memory::{hex, Lent};
@@ -91,13 +92,17 @@ pub struct Compare {
     pattern: u8,
     /// Each call is printed before it is made.
     trace: bool,
+    /// Only one call in so many is drawn.
+    share: usize,
+    /// Where the slices stand, where that is of any account.
+    stand: &'static str,
 }
 
 /// Printed for a group; the rest are only counted.
 const SHOWN: u64 = 3;
 
 impl Compare {
-    pub fn new(engine: Box<dyn Engine>, trace: bool) -> Compare {
+    pub fn new(engine: Box<dyn Engine>, trace: bool, share: usize) -> Compare {
         Compare {
             engine,
             tallies: vec![Tally::default(); FUNCTIONS.len()],
@@ -107,13 +112,26 @@ impl Compare {
             differences: 0,
             pattern: 0,
             trace,
+            share,
+            stand: "",
         }
+    }
+
+    /// From here on this engine, whose slices stand so, is held to the oracle; what was counted stays.
+    pub fn hold(&mut self, engine: Box<dyn Engine>, stand: &'static str) {
+        self.engine = engine;
+        self.stand = stand;
+    }
+
+    /// How often a group is to do what the whole run does so many times.
+    pub fn times(&self, whole: usize) -> usize {
+        whole.div_ceil(self.share)
     }
 
     /// Whether the engine has a function: one that has not landed answers nothing at all.
     pub fn landed(&self, function: Function) -> bool {
         let engine = &self.engine;
-        match function {
+        watch::during(&|| self.named(function, "every slice empty, every number 0"), || match function {
             Function::CheckBook => engine.check_book(&[]).is_some(),
             Function::Compile => engine.compile(&[], &mut []).is_some(),
             Function::CheckImage => engine.check_image(&[]).is_some(),
@@ -127,7 +145,7 @@ impl Compare {
             Function::Part => engine.part(&[], 0, 0, 0).is_some(),
             Function::Group => engine.group(0).is_some(),
             Function::List => engine.listing(&[], &[]).is_some(),
-        }
+        })
     }
 
     pub fn tally(&self, function: Function) -> &Tally {
@@ -146,6 +164,8 @@ impl Compare {
         self.group = group.to_string();
         self.seed = seed;
         self.differences = 0;
+        // From the group's beginning, so that a group drawn alone has the patterns it has in the whole run.
+        self.pattern = 0;
     }
 
     /// How many calls of the group came out differently.
@@ -159,10 +179,21 @@ impl Compare {
         }
     }
 
+    /// Which call it is, and by what it can be drawn again.
+    fn drawn(&self, function: Function) -> String {
+        let stand = if self.stand.is_empty() { String::new() } else { format!(", slices {}", self.stand) };
+        format!("{} (group '{}', seed {}{stand})", function.name(), self.group, self.seed)
+    }
+
+    /// The call that is made, for one that does not come back.
+    fn named(&self, function: Function, inputs: &str) -> String {
+        format!("{}\n    with {inputs}", self.drawn(function))
+    }
+
     fn differs(&mut self, function: Function, inputs: &str, why: String) {
         self.differences += 1;
         if self.differences <= SHOWN {
-            println!("DIFFERS {} (group '{}', seed {}): {why}", function.name(), self.group, self.seed);
+            println!("DIFFERS {}: {why}", self.drawn(function));
             println!("    with {inputs}");
         }
     }
@@ -184,7 +215,7 @@ impl Compare {
     ) -> Answer {
         self.traced(function, &inputs);
         let due = call(&Oracle).expect("the oracle has every function");
-        match call(self.engine.as_ref()) {
+        match watch::during(&|| self.named(function, &inputs()), || call(self.engine.as_ref())) {
             Some(got) if got == due => {}
             got => self.differs(function, &inputs(), format!("oracle {due:?}, {} {got:?}", self.engine.name())),
         }
@@ -207,7 +238,7 @@ impl Compare {
         let mut one = Lent::new(room, self.pattern);
         let mut other = Lent::new(room, self.pattern);
         let due = call(&Oracle, one.room()).expect("the oracle has every function");
-        match call(self.engine.as_ref(), other.room()) {
+        match watch::during(&|| self.named(function, &inputs()), || call(self.engine.as_ref(), other.room())) {
             Some(got) if got == due => {
                 if let Some(at) = (0..one.whole().len()).find(|at| one.whole()[*at] != other.whole()[*at]) {
                     let (left, right) = (one.whole()[at], other.whole()[at]);

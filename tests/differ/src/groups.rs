@@ -18,11 +18,13 @@ pub struct Pool {
 }
 
 impl Pool {
-    pub fn draw(random: &mut Random) -> Pool {
-        let books: Vec<Book> = (0..1_400).map(|i| books::book(random, KINDS[i % KINDS.len()])).collect();
+    /// `times` tells how much of the whole a share of the run has. Every kind of book is there at least twice.
+    pub fn draw(random: &mut Random, times: impl Fn(usize) -> usize) -> Pool {
+        let count = times(1_400).max(2 * KINDS.len());
+        let books: Vec<Book> = (0..count).map(|i| books::book(random, KINDS[i % KINDS.len()])).collect();
         let compiled =
             books.iter().filter_map(|book| oracle::compile::compiled(&book.bytes()).ok()).map(|c| c.image).collect();
-        let wild = (0..700).map(|_| damage::wild_image(random)).collect();
+        let wild = (0..times(700)).map(|_| damage::wild_image(random)).collect();
         Pool { books, compiled, wild }
     }
 
@@ -36,7 +38,7 @@ impl Pool {
         }
     }
 
-    fn image(&self, random: &mut Random) -> &[u8] {
+    pub fn image(&self, random: &mut Random) -> &[u8] {
         if random.once_in(2) {
             self.compiled_image(random)
         } else {
@@ -56,7 +58,7 @@ impl Pool {
     }
 }
 
-type Draw = Box<dyn Fn(&mut Compare, &Pool, &mut Random)>;
+pub type Draw = Box<dyn Fn(&mut Compare, &Pool, &mut Random)>;
 
 pub struct Group {
     pub name: String,
@@ -64,7 +66,7 @@ pub struct Group {
     pub draw: Draw,
 }
 
-fn group(name: &str, function: Function, draw: impl Fn(&mut Compare, &Pool, &mut Random) + 'static) -> Group {
+pub fn group(name: &str, function: Function, draw: impl Fn(&mut Compare, &Pool, &mut Random) + 'static) -> Group {
     Group { name: name.to_string(), function, draw: Box::new(draw) }
 }
 
@@ -88,7 +90,7 @@ fn check_book(groups: &mut Vec<Group>) {
         for book in &pool.books {
             compare.check_book(&book.bytes());
         }
-        for _ in 0..18_000 {
+        for _ in 0..compare.times(18_000) {
             let kind = if random.once_in(8) { *random.pick(&KINDS) } else { Kind::Tiny };
             let book = books::book(random, kind).bytes();
             compare.check_book(&book);
@@ -97,11 +99,11 @@ fn check_book(groups: &mut Vec<Group>) {
     for number in 1..=13 {
         let name = format!("check_book: books damaged for {number}");
         groups.push(group(&name, function, move |compare, pool, random| {
-            damaged_books(pool, random, number, 1_100, |book| compare.check_book(book).number);
+            damaged_books(pool, random, number, compare.times(1_100), |book| compare.check_book(book).number);
         }));
     }
     groups.push(group("check_book: any byte changed", function, |compare, pool, random| {
-        for _ in 0..4_000 {
+        for _ in 0..compare.times(4_000) {
             let mut book = small_book(pool, random).bytes();
             for _ in 0..random.between(1, 3) {
                 let at = book.len() - 1 - random.below(book.len().min(300));
@@ -112,14 +114,14 @@ fn check_book(groups: &mut Vec<Group>) {
     }));
     groups.push(group("check_book: any bytes of lengths 0 to 64", function, |compare, _, random| {
         for length in 0..=64 {
-            for _ in 0..20 {
+            for _ in 0..compare.times(20) {
                 let bytes = random.bytes(length);
                 compare.check_book(&bytes);
             }
         }
     }));
     groups.push(group("check_book: any table under a right trailer", function, |compare, _, random| {
-        for _ in 0..6_000 {
+        for _ in 0..compare.times(6_000) {
             let book = damage::any_book_table(random);
             compare.check_book(&book);
         }
@@ -161,28 +163,28 @@ fn compile(groups: &mut Vec<Group>) {
                 Kind::Layered | Kind::Deep => 2_000,
                 _ => 1_200,
             };
-            for _ in 0..count {
+            for _ in 0..compare.times(count) {
                 let book = books::book(random, kind).bytes();
                 compare.compile(&book, LARGEST_IMAGE + random.below(3));
             }
         }));
     }
     groups.push(group("compile: over 1,024 places", function, |compare, _, random| {
-        for _ in 0..560 {
+        for _ in 0..compare.times(560) {
             let book = books::too_many_places(random).bytes();
             let room = *random.pick(&[0, 11, LARGEST_IMAGE]);
             compare.compile(&book, room);
         }
     }));
     groups.push(group("compile: over 4,096 edges", function, |compare, _, random| {
-        for _ in 0..700 {
+        for _ in 0..compare.times(700) {
             let book = books::too_many_edges(random).bytes();
             let room = *random.pick(&[0, 11, LARGEST_IMAGE]);
             compare.compile(&book, room);
         }
     }));
     groups.push(group("compile: buffers just long enough and too short", function, |compare, _, random| {
-        for _ in 0..700 {
+        for _ in 0..compare.times(700) {
             let kind = *random.pick(&[Kind::Tiny, Kind::Layered, Kind::Shared, Kind::Dense]);
             let book = books::book(random, kind).bytes();
             let length = match oracle::compile::compiled(&book) {
@@ -198,7 +200,7 @@ fn compile(groups: &mut Vec<Group>) {
     for number in 1..=13 {
         let name = format!("compile: books damaged for {number}");
         groups.push(group(&name, function, move |compare, pool, random| {
-            damaged_books(pool, random, number, 510, |book| compare.compile(book, 600).number);
+            damaged_books(pool, random, number, compare.times(510), |book| compare.compile(book, 600).number);
         }));
     }
 }
@@ -209,13 +211,13 @@ fn check_image(groups: &mut Vec<Group>) {
         for image in &pool.compiled {
             compare.check_image(image);
         }
-        for _ in 0..3_000 {
+        for _ in 0..compare.times(3_000) {
             let image = pool.compiled_image(random).to_vec();
             compare.check_image(&image);
         }
     }));
     groups.push(group("check_image: images that no compile makes", function, |compare, _, random| {
-        for _ in 0..5_000 {
+        for _ in 0..compare.times(5_000) {
             let image = damage::wild_image(random);
             compare.check_image(&image);
         }
@@ -223,7 +225,7 @@ fn check_image(groups: &mut Vec<Group>) {
     for number in 17..=19 {
         let name = format!("check_image: images damaged for {number}");
         groups.push(group(&name, function, move |compare, pool, random| {
-            for _ in 0..4_000 {
+            for _ in 0..compare.times(4_000) {
                 let good = pool.image(random);
                 let image = damage::image(random, good, number);
                 compare.check_image(&image);
@@ -232,14 +234,14 @@ fn check_image(groups: &mut Vec<Group>) {
     }
     groups.push(group("check_image: any bytes of lengths 0 to 64", function, |compare, _, random| {
         for length in 0..=64 {
-            for _ in 0..12 {
+            for _ in 0..compare.times(12) {
                 let bytes = random.bytes(length);
                 compare.check_image(&bytes);
             }
         }
     }));
     groups.push(group("check_image: any records under a right trailer", function, |compare, _, random| {
-        for _ in 0..3_000 {
+        for _ in 0..compare.times(3_000) {
             let image = damage::any_image_table(random);
             compare.check_image(&image);
         }
@@ -280,7 +282,7 @@ fn questions(groups: &mut Vec<Group>) {
     for function in [Function::Fallback, Function::Level, Function::Mark] {
         let name = format!("{}: images good and damaged", function.name());
         groups.push(group(&name, function, move |compare, pool, random| {
-            for _ in 0..8_000 {
+            for _ in 0..compare.times(8_000) {
                 let image = pool.image_or_damaged(random, 5);
                 let place = some_place(random, &image);
                 compare.question(function, &image, place);
@@ -290,7 +292,7 @@ fn questions(groups: &mut Vec<Group>) {
     for (function, count) in [(Function::Edge, 12_000), (Function::Step, 16_000)] {
         let name = format!("{}: images good and damaged", function.name());
         groups.push(group(&name, function, move |compare, pool, random| {
-            for _ in 0..count {
+            for _ in 0..compare.times(count) {
                 let image = pool.image_or_damaged(random, 6);
                 let place = some_place(random, &image);
                 let event = some_event(random, &image);
@@ -299,7 +301,7 @@ fn questions(groups: &mut Vec<Group>) {
         }));
     }
     groups.push(group("step: walks along a log", Function::Step, |compare, pool, random| {
-        for _ in 0..400 {
+        for _ in 0..compare.times(400) {
             let image = pool.image(random).to_vec();
             let open = oracle::image::open(&image).expect("an image of the pool is accepted");
             let mut place = random.below(open.place_count());
@@ -325,7 +327,7 @@ fn some_base(random: &mut Random, log: &[u8]) -> u32 {
 fn run(groups: &mut Vec<Group>) {
     let function = Function::Run;
     groups.push(group("run: logs that follow the image, any room", function, |compare, pool, random| {
-        for _ in 0..14_000 {
+        for _ in 0..compare.times(14_000) {
             let image = pool.image(random).to_vec();
             let open = oracle::image::open(&image).expect("an image of the pool is accepted");
             let place = if random.once_in(2) { 0 } else { random.below(open.place_count()) };
@@ -341,7 +343,7 @@ fn run(groups: &mut Vec<Group>) {
         }
     }));
     groups.push(group("run: every room from 0 bytes up", function, |compare, pool, random| {
-        for _ in 0..260 {
+        for _ in 0..compare.times(260) {
             let image = pool.image(random).to_vec();
             let open = oracle::image::open(&image).expect("an image of the pool is accepted");
             let place = random.below(open.place_count());
@@ -354,7 +356,7 @@ fn run(groups: &mut Vec<Group>) {
         }
     }));
     groups.push(group("run: bases near the greatest end", function, |compare, pool, random| {
-        for _ in 0..5_000 {
+        for _ in 0..compare.times(5_000) {
             let image = pool.compiled_image(random).to_vec();
             let open = oracle::image::open(&image).expect("an image of the pool is accepted");
             let length = random.below(20);
@@ -364,7 +366,7 @@ fn run(groups: &mut Vec<Group>) {
         }
     }));
     groups.push(group("run: damaged images and wrong places", function, |compare, pool, random| {
-        for _ in 0..5_000 {
+        for _ in 0..compare.times(5_000) {
             let image = pool.image_or_damaged(random, 2);
             let place = some_place(random, &image);
             let length = random.below(10);
@@ -374,7 +376,7 @@ fn run(groups: &mut Vec<Group>) {
         }
     }));
     groups.push(group("run: long logs", function, |compare, pool, random| {
-        for _ in 0..60 {
+        for _ in 0..compare.times(60) {
             let image = pool.image(random).to_vec();
             let open = oracle::image::open(&image).expect("an image of the pool is accepted");
             let length = random.between(1_000, 8_000);
@@ -383,7 +385,7 @@ fn run(groups: &mut Vec<Group>) {
         }
     }));
     groups.push(group("run: a log in parts", function, |compare, pool, random| {
-        for _ in 0..800 {
+        for _ in 0..compare.times(800) {
             let image = pool.image(random).to_vec();
             let open = oracle::image::open(&image).expect("an image of the pool is accepted");
             let log = draw::log(random, &open, 0, 40);
@@ -417,7 +419,7 @@ fn list_of_run(pool: &Pool, random: &mut Random) -> (Vec<u8>, u32, Vec<oracle::r
 fn lists(groups: &mut Vec<Group>) {
     let function = Function::ShortList;
     groups.push(group("short_list: any records", function, |compare, _, random| {
-        for _ in 0..9_000 {
+        for _ in 0..compare.times(9_000) {
             let count = random.below(12);
             let ends: Vec<u32> = (0..3).map(|_| random.next() as u32 >> random.below(32)).collect();
             let records: Vec<(u32, u16, u8, u8)> =
@@ -431,7 +433,7 @@ fn lists(groups: &mut Vec<Group>) {
         }
     }));
     groups.push(group("short_list: lists of runs", function, |compare, pool, random| {
-        for _ in 0..3_000 {
+        for _ in 0..compare.times(3_000) {
             let (_, _, records) = list_of_run(pool, random);
             let mut list = oracle::run::record_bytes(&records);
             list.truncate(list.len() - if random.once_in(6) { random.below(8).min(list.len()) } else { 0 });
@@ -443,7 +445,7 @@ fn lists(groups: &mut Vec<Group>) {
         }
     }));
     groups.push(group("short_list: ends that differ in one bit", function, |compare, _, random| {
-        for _ in 0..1_500 {
+        for _ in 0..compare.times(1_500) {
             let end = random.next() as u32;
             let other = end ^ (1 << random.below(32));
             let ends: Vec<u32> = (0..random.between(2, 5)).map(|_| *random.pick(&[end, other])).collect();
@@ -453,7 +455,7 @@ fn lists(groups: &mut Vec<Group>) {
     }));
     let function = Function::Part;
     groups.push(group("part: records of runs", function, |compare, pool, random| {
-        for _ in 0..3_000 {
+        for _ in 0..compare.times(3_000) {
             let (log, base, records) = list_of_run(pool, random);
             for record in records.iter().take(6) {
                 compare.part(&log, base, record.end as u32, record.length as u32);
@@ -461,7 +463,7 @@ fn lists(groups: &mut Vec<Group>) {
         }
     }));
     groups.push(group("part: any numbers near a log", function, |compare, _, random| {
-        for _ in 0..14_000 {
+        for _ in 0..compare.times(14_000) {
             let length = random.below(12);
             let log = random.bytes(length);
             let base = some_base(random, &log);
@@ -488,7 +490,7 @@ fn lists(groups: &mut Vec<Group>) {
 
 fn listing(groups: &mut Vec<Group>) {
     groups.push(group("list: drawn books and logs", Function::List, |compare, pool, random| {
-        for _ in 0..240 {
+        for _ in 0..compare.times(240) {
             let book = small_book(pool, random).bytes();
             let length = match random.below(12) {
                 0 => 0,

@@ -71,3 +71,28 @@ pub fn rows(compare: &Compare, full: bool) -> Vec<Row> {
     row("of these, cut short by room".to_string(), 1_000, kinds.of_these_cut_by_room, run);
     rows
 }
+
+/// What a share of the run must have reached, in so many rounds. `empties` is how many calls had an empty slice.
+pub fn guarded_rows(compare: &Compare, full: bool, empties: u64, share: usize, rounds: usize) -> Vec<Row> {
+    // The program lends nothing from here, so it has no part in this.
+    let landed = |function: Function| function != Function::List && (full || compare.landed(function));
+    let part = |whole: u64| whole * rounds as u64 / share as u64;
+    let mut rows = Vec::new();
+    let mut row = |what: String, least: u64, got: u64, asked: bool| {
+        rows.push(Row { what, least: least.max(1), got, waived: !asked });
+    };
+    for function in FUNCTIONS {
+        // Every event in each round, whatever the share.
+        let least = if function == Function::Group { 256 * rounds as u64 } else { part(5_000) };
+        let (name, got) = (function.name(), compare.tally(function).calls);
+        row(format!("calls of {name} in guarded memory"), least, got, landed(function));
+    }
+    for number in 1..=24 {
+        let asked = givers(number).iter().any(|function| landed(*function));
+        row(format!("refusals {number} in guarded memory"), part(500), compare.refusals(number), asked);
+    }
+    let given_slices = FUNCTIONS.iter().filter(|function| **function != Function::Group && landed(**function)).count();
+    let least = (crate::empties::TIMES * rounds * given_slices) as u64;
+    row("calls with an empty slice".to_string(), least, empties, true);
+    rows
+}

@@ -83,10 +83,22 @@ impl Engine for Oracle {
 
 /// The proved library, where this build has it.
 pub fn proved() -> Option<Box<dyn Engine>> {
+    linked(false)
+}
+
+/// The same, given a null pointer for every slice that is empty.
+pub fn proved_with_null() -> Option<Box<dyn Engine>> {
+    linked(true)
+}
+
+fn linked(null_when_empty: bool) -> Option<Box<dyn Engine>> {
     #[cfg(feature = "proved")]
-    return Some(Box::new(crate::proved::Proved));
+    return Some(Box::new(crate::proved::Proved { null_when_empty }));
     #[cfg(not(feature = "proved"))]
-    return None;
+    {
+        let _ = null_when_empty;
+        return None;
+    }
 }
 
 /// Every engine of this build, the oracle first.

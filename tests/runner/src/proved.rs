@@ -87,41 +87,72 @@ macro_rules! landed {
     }};
 }
 
-pub struct Proved;
+/// What C sees of an empty slice is a matter of its own: the C face lets its pointer be null.
+pub struct Proved {
+    pub null_when_empty: bool,
+}
 
-// SAFETY of every call below: pointer and length are those of one live slice, and the C face reads a `const` pointer
-// and writes a lent one inside that length only. The guards around lent memory test the latter.
+#[cfg(any(
+    feature = "f-check-book",
+    feature = "f-compile",
+    feature = "f-check-image",
+    feature = "f-questions",
+    feature = "f-step",
+    feature = "f-run",
+    feature = "f-short-list",
+    feature = "f-part"
+))]
+impl Proved {
+    fn read(&self, bytes: &[u8]) -> *const u8 {
+        if self.null_when_empty && bytes.is_empty() {
+            std::ptr::null()
+        } else {
+            bytes.as_ptr()
+        }
+    }
+    #[cfg(any(feature = "f-compile", feature = "f-run", feature = "f-short-list"))]
+    fn lent(&self, bytes: &mut [u8]) -> *mut u8 {
+        if self.null_when_empty && bytes.is_empty() {
+            std::ptr::null_mut()
+        } else {
+            bytes.as_mut_ptr()
+        }
+    }
+}
+
+// SAFETY of every call below: pointer and length are those of one live slice (or null and 0), and the C face reads a
+// `const` pointer and writes a lent one inside that length only. The guards around lent memory test the latter.
 impl Engine for Proved {
     fn name(&self) -> &'static str {
         "proved"
     }
     fn check_book(&self, book: &[u8]) -> Option<Answer> {
-        landed!("f-check-book", answer(unsafe { gusemrak_check_book(book.as_ptr(), book.len()) }), book)
+        landed!("f-check-book", answer(unsafe { gusemrak_check_book(self.read(book), book.len()) }), book)
     }
     fn compile(&self, book: &[u8], out: &mut [u8]) -> Option<Answer> {
         landed!(
             "f-compile",
-            answer(unsafe { gusemrak_compile(book.as_ptr(), book.len(), out.as_mut_ptr(), out.len()) }),
+            answer(unsafe { gusemrak_compile(self.read(book), book.len(), self.lent(out), out.len()) }),
             book,
             out
         )
     }
     fn check_image(&self, image: &[u8]) -> Option<Answer> {
-        landed!("f-check-image", answer(unsafe { gusemrak_check_image(image.as_ptr(), image.len()) }), image)
+        landed!("f-check-image", answer(unsafe { gusemrak_check_image(self.read(image), image.len()) }), image)
     }
     fn fallback(&self, image: &[u8], place: u32) -> Option<Answer> {
-        landed!("f-questions", answer(unsafe { gusemrak_fallback(image.as_ptr(), image.len(), place) }), image, place)
+        landed!("f-questions", answer(unsafe { gusemrak_fallback(self.read(image), image.len(), place) }), image, place)
     }
     fn level(&self, image: &[u8], place: u32) -> Option<Answer> {
-        landed!("f-questions", answer(unsafe { gusemrak_level(image.as_ptr(), image.len(), place) }), image, place)
+        landed!("f-questions", answer(unsafe { gusemrak_level(self.read(image), image.len(), place) }), image, place)
     }
     fn mark(&self, image: &[u8], place: u32) -> Option<Answer> {
-        landed!("f-questions", answer(unsafe { gusemrak_mark(image.as_ptr(), image.len(), place) }), image, place)
+        landed!("f-questions", answer(unsafe { gusemrak_mark(self.read(image), image.len(), place) }), image, place)
     }
     fn edge(&self, image: &[u8], place: u32, event: u8) -> Option<Answer> {
         landed!(
             "f-questions",
-            answer(unsafe { gusemrak_edge(image.as_ptr(), image.len(), place, event) }),
+            answer(unsafe { gusemrak_edge(self.read(image), image.len(), place, event) }),
             image,
             place,
             event
@@ -130,7 +161,7 @@ impl Engine for Proved {
     fn step(&self, image: &[u8], place: u32, event: u8) -> Option<Answer> {
         landed!(
             "f-step",
-            answer(unsafe { gusemrak_step(image.as_ptr(), image.len(), place, event) }),
+            answer(unsafe { gusemrak_step(self.read(image), image.len(), place, event) }),
             image,
             place,
             event
@@ -141,13 +172,13 @@ impl Engine for Proved {
             "f-run",
             answer(unsafe {
                 gusemrak_run(
-                    image.as_ptr(),
+                    self.read(image),
                     image.len(),
                     place,
                     base,
-                    log.as_ptr(),
+                    self.read(log),
                     log.len(),
-                    out.as_mut_ptr(),
+                    self.lent(out),
                     out.len(),
                 )
             }),
@@ -161,7 +192,7 @@ impl Engine for Proved {
     fn short_list(&self, list: &[u8], out: &mut [u8]) -> Option<Answer> {
         landed!(
             "f-short-list",
-            answer(unsafe { gusemrak_short_list(list.as_ptr(), list.len(), out.as_mut_ptr(), out.len()) }),
+            answer(unsafe { gusemrak_short_list(self.read(list), list.len(), self.lent(out), out.len()) }),
             list,
             out
         )
@@ -169,7 +200,7 @@ impl Engine for Proved {
     fn part(&self, log: &[u8], base: u32, end: u32, length: u32) -> Option<Answer> {
         landed!(
             "f-part",
-            answer(unsafe { gusemrak_part(log.as_ptr(), log.len(), base, end, length) }),
+            answer(unsafe { gusemrak_part(self.read(log), log.len(), base, end, length) }),
             log,
             base,
             end,
