@@ -1,3 +1,4 @@
+# shellcheck shell=bash
 # Read by the scripts beside it: what has landed, the proved library, and the programs built for both. They set `root`
 # before; a script that counts tests has its own `give_up`.
 
@@ -17,9 +18,9 @@ read_landed() {
         features+=("$feature")
     done < <(sed -e 's/#.*//' -e 's/[[:space:]]//g' -e '/^$/d' "$tests/landed")
     mode=()
-    if [[ $(printf '%s\n' "${features[@]+"${features[@]}"}" | grep -vx f-list | sort -u | tr '\n' ' ') == "$all " ]]; then
-        mode=(full)
-    fi
+    local functions
+    functions=$(printf '%s\n' "${features[@]+"${features[@]}"}" | grep -vx f-list | sort -u | tr '\n' ' ')
+    [[ $functions != "$all " ]] || mode=(full)
 }
 
 # The proved library, and the program `list` where it has landed.

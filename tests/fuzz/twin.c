@@ -428,8 +428,9 @@ gusemrak_answer twin_short_list(const uint8_t *list, size_t n, uint8_t *out, siz
     return answered(kept, 0, 0, 0);
 }
 
-gusemrak_answer twin_part(size_t nlog, uint32_t base, uint32_t end, uint32_t length)
+gusemrak_answer twin_part(const uint8_t *log, size_t nlog, uint32_t base, uint32_t end, uint32_t length)
 {
+    (void)log; /* where the part lies hangs on the log's length alone */
     if (base + (uint64_t)nlog > 4294967295u)
         return refused(21, 0);
     if (length == 0)

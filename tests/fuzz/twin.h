@@ -16,7 +16,7 @@ gusemrak_answer twin_step(const uint8_t *image, size_t n, uint32_t place, uint8_
 gusemrak_answer twin_run(const uint8_t *image, size_t n, uint32_t place, uint32_t base,
                          const uint8_t *log, size_t nlog, uint8_t *out, size_t room);
 gusemrak_answer twin_short_list(const uint8_t *list, size_t n, uint8_t *out, size_t room);
-gusemrak_answer twin_part(size_t nlog, uint32_t base, uint32_t end, uint32_t length);
+gusemrak_answer twin_part(const uint8_t *log, size_t nlog, uint32_t base, uint32_t end, uint32_t length);
 uint8_t twin_group(uint8_t event);
 
 #endif

@@ -18,6 +18,6 @@ pub mod Image
 pub mod Small
 pub mod Records
 pub mod Run
-pub mod Same
+pub mod Alike
 pub mod ImageRun
 pub mod Loops

@@ -98,3 +98,8 @@ module _ (δ : Delta) where
             ∙ ap (λ (m : ℕ). last (reverse (take k t ++ drop k t)) m) len
             ∙ ap (λ (u : Text). last (reverse u) n) whole ∙ e,
       )
+
+-- every text is the events of a log
+pub events-all : (t : Text) → events t ≡ t
+events-all [] = events-nil
+events-all (a ∷ t) = events-cons a t ∙ ap (λ (u : Text). a ∷ u) (events-all t)

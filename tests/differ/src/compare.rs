@@ -130,8 +130,9 @@ impl Compare {
 
     /// Whether the engine has a function: one that has not landed answers nothing at all.
     pub fn landed(&self, function: Function) -> bool {
-        let engine = &self.engine;
-        watch::during(&|| self.named(function, "every slice empty, every number 0"), || match function {
+        let (engine, inputs) = (&self.engine, "every slice empty, every number 0");
+        self.traced(function, || inputs.to_string());
+        watch::during(&|| self.named(function, inputs), || match function {
             Function::CheckBook => engine.check_book(&[]).is_some(),
             Function::Compile => engine.compile(&[], &mut []).is_some(),
             Function::CheckImage => engine.check_image(&[]).is_some(),

@@ -98,7 +98,7 @@ struct Count {
     not_landed: usize,
 }
 
-/// Every group once. In a soak the first failure ends it, and so does the end of its time.
+/// Every group once. In a soak the first failure ends it, and so does the end of its time: false then.
 fn draw_groups(
     compare: &mut Compare,
     groups: &[Group],
@@ -106,14 +106,14 @@ fn draw_groups(
     seed: u64,
     until: Option<Instant>,
     count: &mut Count,
-) {
+) -> bool {
     let pool = groups::Pool::draw(&mut Random::new(seed), |whole| compare.times(whole));
     for (number, group) in groups.iter().enumerate() {
         if wanted.only.as_ref().is_some_and(|text| !group.name.contains(text.as_str())) {
             continue;
         }
         if until.is_some_and(|until| count.failed > 0 || Instant::now() >= until) {
-            return;
+            return false;
         }
         // A group's seed hangs on its place in the list alone, so that one group can be run without the others.
         let seed = seed + 1_000 * (number as u64 + 1);
@@ -135,9 +135,10 @@ fn draw_groups(
             }
         }
     }
+    true
 }
 
-/// One seed, in every stand that is wanted.
+/// One seed, in every stand that is wanted. False where it was not drawn to its end.
 fn draw_rounds(
     compare: &mut Compare,
     groups: &[Group],
@@ -146,20 +147,22 @@ fn draw_rounds(
     until: Option<Instant>,
     count: &mut Count,
     empties: &Empties,
-) {
+) -> bool {
     if wanted.stands.is_empty() {
-        draw_groups(compare, groups, wanted, seed, until, count);
+        return draw_groups(compare, groups, wanted, seed, until, count);
     }
+    let mut whole = true;
     for (round, stand) in wanted.stands.iter().enumerate() {
         let (engine, with_null) = engines(wanted).expect("there were engines before");
         compare.hold(Box::new(Guarded::new(engine, with_null, *stand, empties.clone())), stand.name());
         let calls = compare.calls();
         // Other draws in each round: a hundred thousand is past the seeds of all groups.
-        draw_groups(compare, groups, wanted, seed + 100_000 * round as u64, until, count);
+        whole &= draw_groups(compare, groups, wanted, seed + 100_000 * round as u64, until, count);
         if wanted.soak.is_none() {
             println!("slices {}: {} calls", stand.name(), compare.calls() - calls);
         }
     }
+    whole
 }
 
 fn show_tallies(compare: &Compare) {
@@ -207,12 +210,13 @@ fn main() -> ExitCode {
     let mut seed = first_seed;
     loop {
         let (from, calls) = (Instant::now(), compare.calls());
-        draw_rounds(&mut compare, &groups, &wanted, seed, until, &mut count, &empties);
+        let whole = draw_rounds(&mut compare, &groups, &wanted, seed, until, &mut count, &empties);
         let Some(until) = until else { break };
-        println!("seed {seed}: {} calls, {:.1} seconds", compare.calls() - calls, from.elapsed().as_secs_f64());
-        seed += 1;
+        let (calls, seconds) = (compare.calls() - calls, from.elapsed().as_secs_f64());
+        println!("seed {seed}: {calls} calls, {seconds:.1} seconds{}", if whole { "" } else { ", not to its end" });
+        seed += u64::from(whole);
         if count.failed > 0 || Instant::now() >= until {
-            println!("soak: seeds {first_seed} to {}, the next is {seed}", seed - 1);
+            println!("soak: from seed {first_seed}, to be gone on with from seed {seed}");
             break;
         }
     }

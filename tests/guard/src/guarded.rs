@@ -196,7 +196,7 @@ impl Guarded {
             };
             spots[0].open();
             spots[1].open();
-            if let Some(fault) = fault(&*spots, given) {
+            if let Some(fault) = fault(&spots, given) {
                 println!("    slices {}: {fault}", self.stand.name());
                 return None;
             }
@@ -211,10 +211,10 @@ impl Guarded {
                 }
             }
         }
-        if empty {
+        let (answer, bytes) = first.expect("one call at the least");
+        if empty && answer.is_some() {
             self.empties.set(self.empties.get() + 1);
         }
-        let (answer, bytes) = first.expect("one call at the least");
         if let Some(lent) = lent {
             lent.copy_from_slice(&bytes);
         }

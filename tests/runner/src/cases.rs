@@ -5,6 +5,7 @@
 use crate::describe::{self, list_bytes};
 use crate::engine::Answer;
 use std::collections::{BTreeMap, BTreeSet};
+use std::path::{Path, PathBuf};
 
 pub type Bytes = Vec<u8>;
 
@@ -115,6 +116,27 @@ pub struct Cases {
     books: BTreeMap<String, Bytes>,
     images: BTreeMap<String, Bytes>,
     names: BTreeSet<String>,
+}
+
+fn case_files(dir: &Path) -> Result<Vec<PathBuf>, String> {
+    let entries = std::fs::read_dir(dir).map_err(|error| format!("{}: {error}", dir.display()))?;
+    let mut files: Vec<PathBuf> = entries.flatten().map(|entry| entry.path()).collect();
+    files.retain(|path| path.extension().is_some_and(|extension| extension == "txt"));
+    files.sort();
+    if files.is_empty() {
+        return Err(format!("{}: no case files", dir.display()));
+    }
+    Ok(files)
+}
+
+/// Every case file of a folder, in the order of their names.
+pub fn read_cases(dir: &Path) -> Result<Cases, String> {
+    let mut cases = Cases::default();
+    for path in case_files(dir)? {
+        let text = std::fs::read_to_string(&path).map_err(|error| format!("{}: {error}", path.display()))?;
+        cases.read_file(&text).map_err(|error| format!("{}: {error}", path.display()))?;
+    }
+    Ok(cases)
 }
 
 type Read<T> = Result<T, String>;

@@ -1,35 +1,15 @@
 //! `runner DIR [SEED]`: every case file of DIR on every engine, then the properties from a printed seed.
 //! One line for each failure, and `N passed, M failed` last; the exit status is 1 where anything failed.
 
-use runner::cases::Cases;
+use runner::cases::read_cases;
 use runner::engine::engines;
 use runner::judge::{judge, judge_twice, Judged};
 use runner::properties;
 use runner::random::Random;
-use std::path::{Path, PathBuf};
+use std::path::Path;
 use std::process::ExitCode;
 
 const SEED: u64 = 20_011;
-
-fn case_files(dir: &Path) -> Result<Vec<PathBuf>, String> {
-    let entries = std::fs::read_dir(dir).map_err(|error| format!("{}: {error}", dir.display()))?;
-    let mut files: Vec<PathBuf> = entries.flatten().map(|entry| entry.path()).collect();
-    files.retain(|path| path.extension().is_some_and(|extension| extension == "txt"));
-    files.sort();
-    if files.is_empty() {
-        return Err(format!("{}: no case files", dir.display()));
-    }
-    Ok(files)
-}
-
-fn read_cases(dir: &Path) -> Result<Cases, String> {
-    let mut cases = Cases::default();
-    for path in case_files(dir)? {
-        let text = std::fs::read_to_string(&path).map_err(|error| format!("{}: {error}", path.display()))?;
-        cases.read_file(&text).map_err(|error| format!("{}: {error}", path.display()))?;
-    }
-    Ok(cases)
-}
 
 #[derive(Default)]
 struct Count {

@@ -1,0 +1,14 @@
+pub mod Rows
+pub mod Same
+pub mod Seek
+pub mod Meet
+pub mod Opening
+pub mod Leading
+pub mod Written
+pub mod Records
+pub mod Answers
+pub mod Back
+pub mod Shown
+pub mod Valid
+pub mod Theorems
+pub mod Examples

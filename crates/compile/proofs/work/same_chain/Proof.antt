@@ -1,0 +1,114 @@
+-- `same_chain` meets its contract: what is left to compare decides; the first of the two places goes down at each turn.
+-- Assumes nothing.
+use native.Mathlib.Omega.{arith}
+use borrow.Author.Needs.{needs}
+use Rattle.meaning.specs.Chain.{head, level, rest}
+use Rattle.image.proofs.Accepted.{levels}
+use Rattle.compile.specs.Work.{rows}
+use Rattle.compile.proofs.Same.{Comparing, head-differs, level-differs, comparing-start, first-longer, heads-differ, levels-differ, comparing-next, comparing-end}
+use Rattle.compile.proofs.work.same_chain.Statement.{statement}
+use Rattle.compile.proofs.work.same_chain.Tie as tie
+
+abbrev Inv-loop : tie.InvT-loop
+Inv-loop heads levels fallbacks p head level rest a₀ b₀ a b =
+    Comparing (rows heads levels fallbacks) p head level rest a b
+
+abbrev μ-loop : tie.MeasureT-loop
+μ-loop heads levels fallbacks p head level rest a₀ b₀ a b = a
+
+entry-requires : tie.Need-entry-requires Inv-loop μ-loop
+entry-requires c κs = search needs
+
+returns : tie.Need-returns Inv-loop μ-loop
+returns c =
+    let s = c .before .before in
+    head-differs _ (s .pre .0) _ _ _ _ (s .pre .1) (c .before .entry .ensures .0) (c .if1 .taken)
+
+entry-requires-2 : tie.Need-entry-requires-2 Inv-loop μ-loop
+entry-requires-2 c κs = search needs
+
+returns-2 : tie.Need-returns-2 Inv-loop μ-loop
+returns-2 c =
+    let s = c .before .before .before .before in
+    level-differs _ (s .pre .0) _ _ _ _ (s .pre .1) (c .before .entry2 .ensures .0) (c .if2 .taken)
+
+entry-requires-3 : tie.Need-entry-requires-3 Inv-loop μ-loop
+entry-requires-3 c κs = search needs
+
+loop-holds : tie.Need-loop-holds Inv-loop μ-loop
+loop-holds c =
+    let s = c .before .before .before .before .before in
+    comparing-start _ (s .pre .0) _ _ _ _ (s .pre .1) (c .before .before .before .before .entry .ensures .0) (c .before .before .before .if1 .left) (c .before .before .entry2 .ensures .0) (c .before .if2 .left)
+    (c .entry3 .ensures .0) (s .pre .2) (s .pre .3)
+
+returns-3 : tie.Need-returns-3 Inv-loop μ-loop
+returns-3 c =
+    first-longer _ (c .before .before .before .before .before .before .before .before .pre .0) (c .before .before .loop .inv) (c .before .loop-test .taken) (c .if3 .taken)
+
+entry-requires-4 : tie.Need-entry-requires-4 Inv-loop μ-loop
+entry-requires-4 c κs = search needs
+
+entry-requires-5 : tie.Need-entry-requires-5 Inv-loop μ-loop
+entry-requires-5 c κs = search needs
+
+returns-4 : tie.Need-returns-4 Inv-loop μ-loop
+returns-4 c =
+    heads-differ _ (c .before .before .before .before .before .before .before .before .before .before .before .pre .0) (c .before .before .before .before .before .loop .inv) (c .before .before .before .before .loop-test .taken) (c .before .before .before .if3 .left)
+    (c .before .before .entry4 .ensures .0) (c .before .entry5 .ensures .0) (c .if4 .taken)
+
+entry-requires-6 : tie.Need-entry-requires-6 Inv-loop μ-loop
+entry-requires-6 c κs = search needs
+
+entry-requires-7 : tie.Need-entry-requires-7 Inv-loop μ-loop
+entry-requires-7 c κs = search needs
+
+returns-5 : tie.Need-returns-5 Inv-loop μ-loop
+returns-5 c =
+    levels-differ _ (c .before .before .before .before .before .before .before .before .before .before .before .before .before .before .pre .0) (c .before .before .before .before .before .before .before .before .loop .inv) (c .before .before .before .before .before .before .before .loop-test .taken) (c .before .before .before .before .before .before .if3 .left)
+    (c .before .before .entry6 .ensures .0) (c .before .entry7 .ensures .0) (c .if5 .taken)
+
+entry-requires-8 : tie.Need-entry-requires-8 Inv-loop μ-loop
+entry-requires-8 c κs = search needs
+
+entry-requires-9 : tie.Need-entry-requires-9 Inv-loop μ-loop
+entry-requires-9 c κs = search needs
+
+loop-less : tie.Need-loop-less Inv-loop μ-loop
+loop-less c =
+    omega (arith, c .before .before .before .before .before .before .before .before .before .before .before .before .before .before .before .before .pre .0 (c .before .before .before .before .before .before .before .before .before .before .loop .a) (omega arith))
+
+loop-again : tie.Need-loop-again Inv-loop μ-loop
+loop-again c =
+    comparing-next _ (c .before .before .before .before .before .before .before .before .before .before .before .before .before .before .before .before .pre .0) (c .before .before .before .before .before .before .before .before .before .before .loop .inv) (c .before .before .before .before .before .before .before .before .before .loop-test .taken) (c .before .before .before .before .before .before .before .before .if3 .left)
+    (c .before .before .before .before .before .before .before .entry4 .ensures .0) (c .before .before .before .before .before .before .entry5 .ensures .0) (c .before .before .before .before .before .if4 .left)
+    (c .before .before .before .before .entry6 .ensures .0) (c .before .before .before .entry7 .ensures .0) (c .before .before .if5 .left)
+    (c .before .entry8 .ensures .0) (c .entry9 .ensures .0)
+
+returns-6 : tie.Need-returns-6 Inv-loop μ-loop
+returns-6 c =
+    comparing-end _ (c .before .before .before .before .before .before .before .pre .0) (c .before .loop .inv) (c .loop-test .left)
+
+pub same-chain-spec : {M : Type 1} → statement M
+same-chain-spec =
+    tie.close
+    (tie.spec
+    Inv-loop
+    μ-loop
+    entry-requires
+    returns
+    entry-requires-2
+    returns-2
+    entry-requires-3
+    loop-holds
+    returns-3
+    entry-requires-4
+    entry-requires-5
+    returns-4
+    entry-requires-6
+    entry-requires-7
+    returns-5
+    entry-requires-8
+    entry-requires-9
+    loop-less
+    loop-again
+    returns-6)

@@ -1,0 +1,64 @@
+-- `link_of` meets its contract: the link is that of the place reached. Assumes nothing.
+use mathlib.Core.Path.{refl}
+use Prim.Native.Nat.{_<_}
+use native.Mathlib.Omega.{arith}
+use borrow.Author.Needs.{needs}
+use Rattle.book.specs.Model.{tableBook}
+use Rattle.image.proofs.Accepted.{levels}
+use Rattle.compile.specs.Work.{rows}
+use Rattle.compile.proofs.Records.{Linking, link-end, link-here, link-on}
+use Rattle.compile.proofs.write.link_of.Statement.{statement}
+use Rattle.compile.proofs.write.link_of.Tie as tie
+
+abbrev Inv-loop : tie.InvT-loop
+Inv-loop table states heads levels fallbacks p p₀ p' =
+    (p' < 1024) × Linking (tableBook table states) (rows heads levels fallbacks) p p'
+
+abbrev μ-loop : tie.MeasureT-loop
+μ-loop table states heads levels fallbacks p p₀ p' = p'
+
+loop-holds : tie.Need-loop-holds Inv-loop μ-loop
+loop-holds c = (c .before .pre .1, record { low = omega arith; same = refl })
+
+entry-requires : tie.Need-entry-requires Inv-loop μ-loop
+entry-requires c κs = c .before .loop .inv .0
+
+mark-of-requires : tie.Need-mark-of-requires Inv-loop μ-loop
+mark-of-requires c κs = search needs
+
+returns : tie.Need-returns Inv-loop μ-loop
+returns c =
+    link-here (c .before .before .before .before .before .before .pre .0) (c .before .before .before .before .loop .inv .1) (c .before .before .before .loop-test .taken) (c .before .before .entry .ensures .0) (c .before .mark-of .ensures .is) (c .if1 .taken)
+
+entry-requires-2 : tie.Need-entry-requires-2 Inv-loop μ-loop
+entry-requires-2 c κs = search needs
+
+loop-less : tie.Need-loop-less Inv-loop μ-loop
+loop-less c =
+    omega (arith, c .before .before .before .before .before .before .before .pre .0 (c .before .before .before .before .before .loop .p) (omega arith))
+
+loop-again : tie.Need-loop-again Inv-loop μ-loop
+loop-again c =
+    let d = c .before .before .before .before .before .before .before .pre .0 (c .before .before .before .before .before .loop .p) (omega arith) in (
+      omega arith,
+      link-on (c .before .before .before .before .before .before .before .pre .0) (c .before .before .before .before .before .loop .inv .1) (c .before .before .before .before .loop-test .taken) (c .before .before .before .entry .ensures .0) (c .before .before .mark-of .ensures .is) (c .before .if1 .left)
+          (c .entry2 .ensures .0),
+    )
+
+returns-2 : tie.Need-returns-2 Inv-loop μ-loop
+returns-2 c = link-end (c .before .before .before .pre .0) (c .before .loop .inv .1) (c .loop-test .left)
+
+pub link-of-spec : {M : Type 1} → statement M
+link-of-spec =
+    tie.close
+    (tie.spec
+    Inv-loop
+    μ-loop
+    loop-holds
+    entry-requires
+    mark-of-requires
+    returns
+    entry-requires-2
+    loop-less
+    loop-again
+    returns-2)

@@ -1,0 +1,113 @@
+-- `write_own` meets its contract: the edge records of the events that are left are still to be written. Assumes nothing.
+use mathlib.Core.Path.{_≡_, ap, _∙_}
+use Prim.Native.Nat.{ℕ, _+_, _≤_}
+use native.Mathlib.Omega.{arith}
+use lib.ListN.{length}
+use borrow.Author.Needs.{needs}
+use Rattle.meaning.specs.Book.{outs}
+use Rattle.meaning.specs.Chain.{head}
+use Rattle.book.proofs.Model.{eventsFrom, events-end}
+use Rattle.book.specs.Model.{tableBook}
+use Rattle.image.proofs.Accepted.{levels}
+use Rattle.compile.specs.Work.{rows}
+use Rattle.compile.proofs.Leading.{next-event, place-low, head-low, own-events}
+use Rattle.compile.proofs.Records.{Owning, owning-length, owning-start, owning-next, owning-end}
+use Rattle.compile.proofs.write.write_own.Statement.{statement}
+use Rattle.compile.proofs.write.write_own.Tie as tie
+
+abbrev Inv-loop : tie.InvT-loop
+Inv-loop table states first newest earlier heads levels fallbacks n p out₀ at head left₀ j₀ at₀ out left j at' =
+    (j + left ≤ 131072)
+    × Owning (tableBook table states) (rows heads levels fallbacks) n p out₀ at (eventsFrom table states left j) left at' out
+
+abbrev μ-loop : tie.MeasureT-loop
+μ-loop table states first newest earlier heads levels fallbacks n p out₀ at head left₀ j₀ at₀ out left j at' = left
+
+entry-requires : tie.Need-entry-requires Inv-loop μ-loop
+entry-requires c κs = place-low (c .before .before .pre .0)
+
+count-of-requires : tie.Need-count-of-requires Inv-loop μ-loop
+count-of-requires c κs = search needs
+
+of-head-requires : tie.Need-of-head-requires Inv-loop μ-loop
+of-head-requires c κs = head-low (c .before .before .before .before .pre .0) (c .before .entry .ensures .0)
+
+loop-holds : tie.Need-loop-holds Inv-loop μ-loop
+loop-holds c =
+    let s = c .before .before .before .before .before in
+    let x = s .pre .0 in
+    let few = c .before .count-of .ensures .small in
+    let low = c .of-head .ensures .1 in (
+      omega arith,
+      owning-start (s .pre .1) (x .below)
+          (own-events x (c .before .before .entry .ensures .0) (c .before .count-of .ensures .is) (c .of-head .ensures .0))
+          (c .before .count-of .ensures .is ∙ ap (λ (h : ℕ). length (outs (tableBook (s .args .table .now) (s .args .states)) h)) (c .before .before .entry .ensures .0)),
+    )
+
+edge-at-requires : tie.Need-edge-at-requires Inv-loop μ-loop
+edge-at-requires c κs = search needs
+
+place-after-requires : tie.Need-place-after-requires Inv-loop μ-loop
+place-after-requires c κs = c .before .before .before .before .before .before .before .before .pre .0
+
+write-edge-requires : tie.Need-write-edge-requires Inv-loop μ-loop
+write-edge-requires c κs =
+    let room = c .before .before .before .before .before .before .before .before .before .before .pre .2 in
+    let ends = c .before .before .before .before .loop .inv .1 .ends in
+    let small = c .before .before .edge-at .ensures .event in
+    (omega arith, omega arith)
+
+sub-left : tie.Need-sub-left Inv-loop μ-loop
+sub-left c = search needs
+
+add-j : tie.Need-add-j Inv-loop μ-loop
+add-j c = search needs
+
+add-at : tie.Need-add-at Inv-loop μ-loop
+add-at c =
+    let room = c .before .before .before .before .before .before .before .before .before .before .before .before .before .pre .2 in
+    let ends = c .before .before .before .before .before .before .before .loop .inv .1 .ends in
+    omega arith
+
+loop-less : tie.Need-loop-less Inv-loop μ-loop
+loop-less c = search needs
+
+loop-again : tie.Need-loop-again Inv-loop μ-loop
+loop-again c =
+    let s = c .before .before .before .before .before .before .before .before .before .before .before .before .before in
+    let l = c .before .before .before .before .before .before .before .loop in (
+      omega arith,
+      owning-next (s .pre .1) (l .inv .1) (s .pre .0 .below) (c .before .before .before .before .before .before .loop-test .taken)
+          (next-event _ _ _ _ (c .before .before .before .before .before .before .loop-test .taken) (c .before .before .before .before .before .edge-at .ensures .is)) (c .before .before .before .before .place-after .ensures) (c .before .before .write-edge .ensures),
+    )
+
+same-length : tie.Need-same-length Inv-loop μ-loop
+same-length c = owning-length (c .before .loop .inv .1)
+
+returns : tie.Need-returns Inv-loop μ-loop
+returns c =
+    let s = c .before .before .before .before .before .before .before in
+    let l = c .before .loop in
+    let z : l .left ≡ 0 = omega arith in
+    owning-end (s .pre .1) (l .inv .1) (s .pre .0 .below) z (events-end (s .args .table .now) (s .args .states) (l .left) (l .j) z)
+
+pub write-own-spec : {M : Type 1} → statement M
+write-own-spec =
+    tie.close
+    (tie.spec
+    Inv-loop
+    μ-loop
+    entry-requires
+    count-of-requires
+    of-head-requires
+    loop-holds
+    edge-at-requires
+    place-after-requires
+    write-edge-requires
+    sub-left
+    add-j
+    add-at
+    loop-less
+    loop-again
+    same-length
+    returns)

@@ -1,0 +1,22 @@
+-- `image::field::count` meets its contract.
+-- Assumes nothing.
+use borrow.Author.Needs.{needs}
+use Rattle.image.specs.Form.{placeAt}
+use Rattle.image.proofs.field.count.Statement.{statement}
+use Rattle.image.proofs.field.count.Tie as tie
+
+mul-half : tie.Need-mul-half
+mul-half c = search needs
+
+add-half : tie.Need-add-half
+add-half c = search needs
+
+half-requires : tie.Need-half-requires
+half-requires c κs = search needs
+
+returns : tie.Need-returns
+unfolding placeAt
+returns c = search needs
+
+pub count-spec : {M : Type 1} → statement M
+count-spec = tie.close (tie.spec mul-half add-half half-requires returns)

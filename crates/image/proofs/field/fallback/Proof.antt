@@ -1,0 +1,22 @@
+-- `image::field::fallback` meets its contract.
+-- Assumes nothing.
+use borrow.Author.Needs.{needs}
+use Rattle.image.specs.Form.{placeAt}
+use Rattle.image.proofs.field.fallback.Statement.{statement}
+use Rattle.image.proofs.field.fallback.Tie as tie
+
+mul-half : tie.Need-mul-half
+mul-half c = search needs
+
+add-half : tie.Need-add-half
+add-half c = search needs
+
+half-requires : tie.Need-half-requires
+half-requires c κs = search needs
+
+returns : tie.Need-returns
+unfolding placeAt
+returns c = search needs
+
+pub fallback-spec : {M : Type 1} → statement M
+fallback-spec = tie.close (tie.spec mul-half add-half half-requires returns)

@@ -1,0 +1,8 @@
+-- An image, in the reading order: how it lies in bytes, when it is refused, what is asked of it, the numbers of each
+-- answer, what each call comes to. `Held` is for the private functions alone: nothing public cites it.
+pub mod Form
+pub mod Rules
+pub mod Questions
+pub mod Answers
+pub mod Calls
+pub mod Held
