@@ -1,2 +1,3 @@
--- `Said`: what the face says of a call's answer.
+-- `Said`: what the face says of a call's answer. `Determined`: no second outcome.
 pub mod Said
+pub mod Determined
