@@ -1,0 +1,2 @@
+-- What one part of the listing is.
+pub mod Part
