@@ -1,36 +1,34 @@
--- What a compile answers, from what its parts ensure. `told-injective`: an answer's numbers tell its case. `makes-14` .. `makes-done`:
--- the answer for a book's table. `compiled-refused`, `compiled-fine`: the whole. Assumes nothing.
+-- What a compile answers, from what its parts ensure. `told-injective`: an answer's numbers tell its case. `makes-14`
+-- .. `makes-done`: the answer for a book's table. `compiled-refused`, `compiled-fine`: the whole. Assumes nothing.
 use mathlib.Core.Path.{_≡_, refl, sym, ap, _∙_, subst}
 use mathlib.Core.Logic.{_≢_}
-use mathlib.Core.Bool.{Bool, true, false}
-use mathlib.Core.Option.{Option, none, some}
-use mathlib.Core.List.{List, [], _∷_}
-use Prim.Native.Nat.{ℕ, _+_, _*_, _-_, _≤_, _<_}
+use mathlib.Core.Option.{some}
+use mathlib.Core.List.{List}
+use Prim.Native.Nat.{ℕ, _+_, _*_, _≤_, _<_}
 use native.Mathlib.Omega.{arith}
-use lib.ListN.{length, getD, take, drop, replicate}
+use lib.ListN.{length}
 use lib.Seq.{sets}
 use borrow.Author.Tests.{lt-ltb, le-ltb}
-use Rattle.meaning.specs.Chain.{Chain}
 use Rattle.meaning.specs.Places.{places}
 use Rattle.meaning.specs.Book.{Book, delta, outs, marks}
 use Rattle.meaning.specs.Questions.{firstEdge}
 use Rattle.meaning.specs.Answer.{Answer, accepted, refused}
-use Rattle.book.specs.Form.{tableAt, tableOf, trailerOf}
+use Rattle.book.specs.Form.{tableAt, tableOf}
 use Rattle.book.specs.Model.{tableBook, bookOf, firstsOf, Rising}
 use Rattle.book.specs.Rules.{checkBook}
 use Rattle.book.specs.declared.Checked.{Checked}
 use Rattle.book.specs.declared.Checked.the-variants.{Fine, Refused as Faulty}
-use Rattle.book.proofs.Judged.{table-part, table-inside}
+use Rattle.book.proofs.Judged.{table-inside}
 use Rattle.book.proofs.Accepted as accepted-book
 use Rattle.image.specs.Form.{form1}
-use Rattle.compile.specs.Work.{Rows, rows, listOf, Held, Fit}
+use Rattle.compile.specs.Work.{Rows, listOf}
 use Rattle.compile.specs.Bytes.{edgeCount, imageBytes}
-use Rattle.compile.specs.Answer.{chainsOf, madeOf, imageOfBook, compileAnswer, compileMemory, told}
+use Rattle.compile.specs.Answer.{chainsOf, compileAnswer, compileMemory, told}
 use Rattle.compile.specs.Explore.{Ready, Stands, Explored}
-use Rattle.compile.specs.Write.{Numbered, EdgesAre, Makes}
+use Rattle.compile.specs.Write.{Numbered, Makes}
 use Rattle.compile.specs.declared.Compiled.{Compiled}
 use Rattle.compile.specs.declared.Compiled.the-variants.{Made, Refused}
-use Rattle.compile.proofs.Rows.{length-list, fit-start}
+use Rattle.compile.proofs.Rows.{length-list}
 
 -- an answer's numbers tell its case
 pub told-injective : (a b : Compiled) → told a ≡ told b → a ≡ b
@@ -45,6 +43,12 @@ told-injective (Refused n p) (Refused n' p') e =
     let x : n ≡ n' = cc in
     let y : p ≡ p' = cc in
     λ i. Refused (x i) (y i)
+
+-- so no second answer meets the contract
+pub compiled-unique : (xs : List ℕ) (room : ℕ) (a b : Compiled) → told a ≡ compileAnswer xs room
+    → told b ≡ compileAnswer xs room
+    → a ≡ b
+compiled-unique xs room a b e f = told-injective a b (e ∙ sym f)
 
 -- ---- the answer for a table's book
 module _ {B : Book} {newest earlier : List ℕ} {w : Rows} {n t : ℕ} (X : Explored B newest earlier w n t) (d : List ℕ) where
@@ -87,7 +91,8 @@ module _ {B : Book} {newest earlier : List ℕ} {w : Rows} {n t : ℕ} (X : Expl
           let g = le-ltb (length d) (14 * n + 4 * t + 12) l in
           record { answers = rw (chains, edges, count, e, g); leaves = h ∙ rw (chains, edges, count, e, g) }
 
-pub few-places : {B : Book} {newest earlier : List ℕ} {w : Rows} {n t : ℕ} → Explored B newest earlier w n t → n ≢ 0 → n ≤ 1024
+pub few-places : {B : Book} {newest earlier : List ℕ} {w : Rows} {n t : ℕ} → Explored B newest earlier w n t → n ≢ 0
+    → n ≤ 1024
 few-places X nz = X .fit (omega arith) .held .few
 
 pub makes-told : {B : Book} {d d' : List ℕ} {r a : Compiled} → r ≡ a → Makes B d d' (told a) → Makes B d d' (told r)

@@ -1,19 +1,19 @@
--- What was written is read back: the bytes of a book's image hold the records of the model. `spread-at`: record i of records one
--- after the other. `place-back`, `edge-back`, `trailer-back`: a record from its bytes. `image-place`, `image-edge`,
--- `image-trailer`, `image-letters`: those of the image. Assumes nothing.
-use mathlib.Core.Path.{_≡_, refl, sym, ap, _∙_, subst}
-use mathlib.Core.Bool.{Bool, true, false}
+-- What was written is read back: the bytes of a book's image hold the records of the model. `spread-at`: record i of
+-- records one after the other. `place-back`, `edge-back`, `trailer-back`: a record from its bytes. `image-place`,
+-- `image-edge`, `image-trailer`, `image-letters`: those of the image. Assumes nothing.
+use mathlib.Core.Path.{_≡_, refl, sym, ap, _∙_}
+use mathlib.Core.Bool.{true}
 use mathlib.Core.List.{List, [], _∷_, _++_, append-assoc}
 use Prim.Native.Nat.{ℕ, zero, suc, _+_, _*_, _-_, _/_, _%_, _≤_, _<_}
 use native.Mathlib.Omega.{arith}
 use native.Mathlib.Nat.{mul-suc, mul-zero}
 use lib.ListN.{length, getD, length-append, List·getD-append}
 use lib.Seq.{getD-append-add, getD-append-seam}
-use Rattle.wire.specs.Little.{le16At, le32At, bytes16, bytes32}
+use Rattle.wire.specs.Little.{le16At, le32At}
 use Rattle.meaning.specs.Chain.{Chain}
 use Rattle.meaning.specs.Book.{Book}
 use Rattle.meaning.proofs.Cases.{by-order}
-use Rattle.image.specs.Form.{PlaceRecord, EdgeRecord, Trailer, form1, sizeOf, placeAt, edgeAt, letters, hasLetters}
+use Rattle.image.specs.Form.{PlaceRecord, EdgeRecord, Trailer, form1, sizeOf, placeAt, edgeAt, hasLetters}
 use Rattle.compile.specs.Bytes.{trailerOf, spread, placeOf, placesBelow, edgesBelow, edgeCount, imageBytes}
 use Rattle.compile.proofs.Records.{place-bytes, edge-bytes, length-places, length-edges}
 
@@ -65,7 +65,8 @@ module _ {xs : List ℕ} {at n : ℕ} {bs : List ℕ} (X : Stand xs at n bs) whe
       let g : at ≡ at + 0 = omega arith in
       ap (λ (i : ℕ). le16At xs i) g ∙ number-back 0 v l e f small
 
-place-back : (xs : List ℕ) (at : ℕ) (r : PlaceRecord) → Stand xs at 14 (form1 .place-bytes r) → Fits r → form1 .place-from xs at ≡ r
+place-back : (xs : List ℕ) (at : ℕ) (r : PlaceRecord) → Stand xs at 14 (form1 .place-bytes r) → Fits r
+    → form1 .place-from xs at ≡ r
 place-back xs at r X F =
     let e1 = first-number X (r .first) (omega arith) refl refl (F .first) in
     let e2 = number-back X 2 (r .count) (omega arith) refl refl (F .count) in
@@ -117,7 +118,8 @@ place-at B L (suc n) p x l =
     (λ h. List·getD-append (placesBelow B L n) (placeOf B L n ∷ []) x p (omega arith) ∙ place-at B L n p x h)
     (λ h.
     let e : p ≡ length (placesBelow B L n) = omega arith in
-    ap (λ (i : ℕ). getD (placesBelow B L n ++ (placeOf B L n ∷ [])) i x) e ∙ getD-append-seam (placesBelow B L n) (placeOf B L n) [] x
+    ap (λ (i : ℕ). getD (placesBelow B L n ++ (placeOf B L n ∷ [])) i x) e
+    ∙ getD-append-seam (placesBelow B L n) (placeOf B L n) [] x
     ∙ ap (λ (i : ℕ). placeOf B L i) (sym h))
     (λ h. absurd (let w : ⊥ = omega arith in w))
 

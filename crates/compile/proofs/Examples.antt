@@ -1,6 +1,6 @@
--- Document 01's books to try, compiled by computation: books A, B, C, D and one state, the bytes of A's image, and what a compile
--- refuses of A. `deep` is the least book that tells document 000's rule from Mohri's: a state found deep in the rest is dropped.
--- Assumes nothing.
+-- Document 01's books to try, compiled by computation: books A, B, C, D and one state, the bytes of A's image, and
+-- what a compile refuses of A. `deep` is the least book that tells document 000's rule from Mohri's: a state found
+-- deep in the rest is dropped. Assumes nothing.
 use mathlib.Core.Path.{_≡_, refl}
 use mathlib.Core.List.{List, [], _∷_}
 use Prim.Native.Nat.{ℕ}

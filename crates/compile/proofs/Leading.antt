@@ -1,29 +1,31 @@
--- What the book's edges say at a place of the arrays, and the walk down its fallbacks, in one citation each. h, l and f are what
--- was read of the place p: its head, its level and its fallback. Assumes nothing.
-use mathlib.Core.Path.{_≡_, refl, sym, ap, _∙_, subst}
+-- What the book's edges say at a place of the arrays, and the walk down its fallbacks, in one citation each. h, l and
+-- f are what was read of the place p: its head, its level and its fallback. Assumes nothing.
+use mathlib.Core.Path.{_≡_, sym, ap, _∙_}
 use mathlib.Core.Logic.{_≢_}
 use mathlib.Core.Option.{Option, none, some}
 use mathlib.Core.List.{List, [], _∷_}
 use Prim.Native.Nat.{ℕ, _+_, _-_, _≤_, _<_}
 use native.Mathlib.Omega.{arith}
 use lib.ListN.{length, getD}
-use Rattle.meaning.specs.Book.{Book, delta, outs}
+use Rattle.meaning.specs.Book.{delta, outs}
 use Rattle.meaning.specs.Places.{meet}
-use Rattle.meaning.specs.Chain.{Chain, step, put}
-use Rattle.meaning.proofs.Cases.{by-order, none-some}
+use Rattle.meaning.specs.Chain.{step, put}
+use Rattle.meaning.proofs.Cases.{by-order}
 use Rattle.meaning.proofs.Rules.{whole-rule}
 use Rattle.book.specs.Form.{edgeRecordAt}
-use Rattle.book.specs.Model.{tableBook, firstsOf, ledTo, leadOf}
+use Rattle.book.specs.Model.{tableBook, ledTo, leadOf}
 use Rattle.book.specs.declared.EdgeRecord.{EdgeRecord}
 use Rattle.book.specs.declared.Found.{Found}
 use Rattle.book.specs.declared.Found.the-variants.{To, Nothing}
-use Rattle.book.proofs.Model.{eventsFrom, events-step, events-end, outs-in, outs-out, count-in, count-out, first-in, lead-delta}
-use Rattle.compile.specs.Work.{Rows, chainOf, listOf, Fit}
-use Rattle.compile.specs.Explore.{whole, Ready, Stands, restAfter, Seen, IsSeen, RestAt, StepAt, RestMet, Settled, Grown}
+use Rattle.book.proofs.Model.{eventsFrom, events-step, events-end, outs-in, outs-out, count-in, count-out, first-in}
+use Rattle.book.proofs.Model.{lead-delta}
+use Rattle.compile.specs.Work.{Rows, chainOf, listOf}
+use Rattle.compile.specs.Explore.{whole, Ready, Stands, Seen, RestAt, StepAt, RestMet, Settled, Grown}
 use Rattle.compile.proofs.Seek.{target-none, target-some, rest-end, rest-cons}
 use Rattle.compile.proofs.Meet.{edge-none, edge-some, rest-seen}
 
-module _ {t : List ℕ} {S : ℕ} {first : List ℕ} (R : Ready t S first) (h a : ℕ) (r : Found) (e : ledTo r ≡ leadOf t S first h a) where
+module _ {t : List ℕ} {S : ℕ} {first : List ℕ} (R : Ready t S first) (h a : ℕ) (r : Found)
+    (e : ledTo r ≡ leadOf t S first h a) where
   led : ledTo r ≡ delta (tableBook t S) h a
   led = e ∙ rw (R .firsts) (lead-delta t S (R .few) (R .fits) h a)
 
@@ -53,7 +55,8 @@ pub next-event : (t : List ℕ) (S left j : ℕ) {e : EdgeRecord} → 0 < left �
     → eventsFrom t S left j ≡ e .event ∷ eventsFrom t S (left - 1) (j + 1)
 next-event t S left j l g = events-step t S left j l ∙ rw (← g)
 
-module _ {t : List ℕ} {S : ℕ} {first newest earlier : List ℕ} {w : Rows} {n p : ℕ} (X : Stands t S first newest earlier w n p) where
+module _ {t : List ℕ} {S : ℕ} {first newest earlier : List ℕ} {w : Rows} {n p : ℕ}
+    (X : Stands t S first newest earlier w n p) where
   -- one place down
   pub stands-down : {f : ℕ} → p ≢ 0 → f ≡ getD (w .fallbacks) p 0 → Stands t S first newest earlier w n f
   stands-down z e =
@@ -87,8 +90,8 @@ module _ {t : List ℕ} {S : ℕ} {first newest earlier : List ℕ} {w : Rows} {
       let δ = delta (tableBook t S) in
       rest-end whole δ (whole-rule δ) newest earlier w n (X .fit) a p seen z M
 
-  pub rest-down : (a : ℕ) {f r : ℕ} {seen : List ℕ} → p ≢ 0 → f ≡ getD (w .fallbacks) p 0 → StepAt (tableBook t S) w n f a r seen
-      → RestAt (tableBook t S) w n p a r seen
+  pub rest-down : (a : ℕ) {f r : ℕ} {seen : List ℕ} → p ≢ 0 → f ≡ getD (w .fallbacks) p 0
+      → StepAt (tableBook t S) w n f a r seen → RestAt (tableBook t S) w n p a r seen
   rest-down a {f} {r} {seen} z e P =
       rw (rest-cons w n (X .fit .held) (delta (tableBook t S)) a p f z e) P
 

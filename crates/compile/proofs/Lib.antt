@@ -1,3 +1,6 @@
+-- Rows to Leading: the exploration, on plain values. Written, Records: what is written. Answers: the answer, from the
+-- parts. Back to Valid: the image that was written, read again. Theorems: what a compile gives. Examples: document 01's
+-- books, computed.
 pub mod Rows
 pub mod Same
 pub mod Seek

@@ -1,20 +1,20 @@
--- A chain is met: the arrays follow the list of the chains. `add-in`, `add-old`, `add-new`, `add-over`: q with the reach r put on
--- the chain of the place f. `edge-none`, `edge-some`: the chain of a place after an event. Assumes nothing.
-use mathlib.Core.Path.{_≡_, refl, sym, ap, _∙_, subst}
+-- A chain is met: the arrays follow the list of the chains. `add-in`, `add-old`, `add-new`, `add-over`: q with the
+-- reach r put on the chain of the place f. `edge-none`, `edge-some`: the chain of a place after an event. Assumes
+-- nothing.
+use mathlib.Core.Path.{_≡_, sym, ap, _∙_, subst}
 use mathlib.Core.Logic.{_≢_}
-use mathlib.Core.Bool.{Bool, true, false}
-use mathlib.Core.Option.{Option, none, some}
+use mathlib.Core.Option.{none, some}
 use mathlib.Core.List.{List, [], _∷_, _++_, List·Memᴰ}
-use Prim.Native.Nat.{ℕ, suc, _+_, _≤_, _<_}
+use Prim.Native.Nat.{ℕ, _+_, _≤_, _<_}
 use native.Mathlib.Omega.{arith}
 use lib.ListN.{length, getD, length-append}
-use Rattle.meaning.specs.Chain.{Live, live, Chain, has, put, step}
+use Rattle.meaning.specs.Chain.{live, Chain, put, step}
 use Rattle.meaning.specs.Places.{met, meet}
 use Rattle.meaning.specs.Book.{Book, delta}
 use Rattle.meaning.proofs.Cases.{by-bool}
 use Rattle.meaning.proofs.Places.{met-mem, mem-met, getD-mem, mem-getD}
 use Rattle.compile.specs.Work.{Rows, chainOf, listOf, Fit}
-use Rattle.compile.specs.Explore.{whole, restAfter, RestMet, Seen, IsSeen, RestAt, Finds, Pushed, Grown}
+use Rattle.compile.specs.Explore.{whole, restAfter, RestMet, Seen, RestAt, Finds, Pushed, Grown}
 use Rattle.compile.proofs.Rows.{length-list, list-at, longer, fit-longer, list-longer}
 use Rattle.compile.proofs.Seek.{seen-true, seen-false, step-of, step-some}
 

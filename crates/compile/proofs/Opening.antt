@@ -1,16 +1,16 @@
--- The loops of the exploration: over the events of a place, and over the places. `Meeting` holds while the place p is opened,
--- `Exploring` while the places from p on are still to be opened; the rest is one turn of each. Assumes nothing.
+-- The loops of the exploration: over the events of a place, and over the places. `Meeting` holds while the place p is
+-- opened, `Exploring` while the places from p on are still to be opened; the rest is one turn of each. Assumes
+-- nothing.
 use mathlib.Core.Path.{_≡_, refl, sym, ap, _∙_, subst}
-use mathlib.Core.Bool.{Bool, true, false}
-use mathlib.Core.Option.{Option, none, some}
-use mathlib.Core.List.{List, [], _∷_, _++_}
+use mathlib.Core.Option.{none, some}
+use mathlib.Core.List.{List, [], _∷_}
 use Prim.Native.Nat.{ℕ, zero, suc, _+_, _*_, _-_, _≤_, _<_}
 use native.Mathlib.Omega.{arith}
 use lib.ListN.{length, getD, length-append, List·getD-append}
 use lib.Dec.{ltb}
 use borrow.Author.Tests.{lt-ltb, le-ltb}
 use Rattle.meaning.specs.Text.{Delta, Marks}
-use Rattle.meaning.specs.Chain.{Live, Chain, step, head}
+use Rattle.meaning.specs.Chain.{Chain, step, head}
 use Rattle.meaning.specs.Places.{met, meet, meetAll, opened, grow, places}
 use Rattle.meaning.specs.Book.{Book, delta, outs, marks}
 use Rattle.meaning.specs.Questions.{firstEdge}
@@ -94,7 +94,8 @@ rest-under B [] a = refl
 rest-under B (x ∷ c) a = refl
 
 -- the place p, of the chain c, is being opened: the list M will be met, of which these events are left
-pub record Meeting (B : Book) (p : ℕ) (c : Chain) (M : List Chain) (es newest earlier : List ℕ) (w : Rows) (n : ℕ) : Type 0 where
+pub record Meeting (B : Book) (p : ℕ) (c : Chain) (M : List Chain) (es newest earlier : List ℕ) (w : Rows) (n : ℕ)
+    : Type 0 where
   pub fit : Fit newest earlier w n
   pub below : p < n
   pub of-p : chainOf w p ≡ c
@@ -189,7 +190,8 @@ pub record Exploring (B : Book) (p t : ℕ) (newest earlier : List ℕ) (w : Row
   pub edges : t ≡ firstEdge (delta B) (outs B) (marks B) (listOf w n) p
   pub few : t ≤ 65536 * p
 
-pub exploring-start : (B : Book) {newest earlier : List ℕ} {w : Rows} → Fit newest earlier w 1 → Exploring B 0 0 newest earlier w 1
+pub exploring-start : (B : Book) {newest earlier : List ℕ} {w : Rows} → Fit newest earlier w 1
+    → Exploring B 0 0 newest earlier w 1
 exploring-start B {newest} {earlier} {w} F =
     let e = list-one w in
     record {
@@ -232,7 +234,8 @@ module _ {B : Book} {p t : ℕ} {newest earlier : List ℕ} {w : Rows} {n : ℕ}
         let f = E .fit .held .few in
         record {
           over = λ z.
-              stepped ∙ grow-long (delta B) (outs B) (1024 - p - 1) (p + 1) (opened (delta B) (outs B) p (listOf w n)) (omega arith);
+              stepped
+              ∙ grow-long (delta B) (outs B) (1024 - p - 1) (p + 1) (opened (delta B) (outs B) p (listOf w n)) (omega arith);
           done = λ z. absurd (let x : ⊥ = omega arith in x);
           fit = λ z. absurd (let x : ⊥ = omega arith in x);
           edges = λ z. absurd (let x : ⊥ = omega arith in x);

@@ -1,31 +1,28 @@
--- What is written are the records of the image. `Placing`, `Owning`, `Edging` hold while the place records, the edge records of
--- one place and those of all places are written; the rest is one turn of each. `image-wrote`: the three parts are the image.
--- Assumes nothing.
+-- What is written are the records of the image. `Placing`, `Owning`, `Edging` hold while the place records, the edge
+-- records of one place and those of all places are written; the rest is one turn of each. `image-wrote`: the three
+-- parts are the image. Assumes nothing.
 use mathlib.Core.Path.{_≡_, refl, sym, ap, _∙_, subst}
 use mathlib.Core.Logic.{_≢_}
-use mathlib.Core.Bool.{Bool, true, false}
-use mathlib.Core.Option.{Option, none, some}
-use mathlib.Core.List.{List, [], _∷_, _++_, map}
+use mathlib.Core.List.{List, [], _∷_, _++_}
 use Prim.Native.Nat.{ℕ, zero, suc, _+_, _*_, _-_, _≤_, _<_}
 use native.Mathlib.Omega.{arith}
 use lib.ListN.{length, getD, length-append, length-map}
 use lib.Seq.{sets, length-sets}
-use lib.Dec.{eqb}
 use borrow.Author.Tests.{eq-eqb, ne-eqb}
 use Rattle.wire.proofs.Sets.{sets-then}
-use Rattle.meaning.specs.Text.{Marks}
-use Rattle.meaning.specs.Chain.{Live, Chain, step, head, level, rest}
-use Rattle.meaning.specs.Places.{number, Numbers, places}
+use Rattle.meaning.specs.Chain.{Chain, step, head, rest}
+use Rattle.meaning.specs.Places.{number, Numbers}
 use Rattle.meaning.specs.Book.{Book, delta, outs, marks}
-use Rattle.meaning.specs.Questions.{firstEdge, eventsAt}
+use Rattle.meaning.specs.Questions.{firstEdge}
 use Rattle.meaning.proofs.Cases.{by-eq}
 use Rattle.meaning.proofs.Book.{delta-names}
 use Rattle.meaning.proofs.Places.{number-is, number-step, places-number}
 use Rattle.meaning.proofs.Edges.{firstEdge-suc, firstEdge-mono}
 use Rattle.image.specs.Form.{PlaceRecord, EdgeRecord, form1}
-use Rattle.compile.specs.Work.{Rows, Down, chainOf, listOf, Held}
+use Rattle.compile.specs.Work.{Rows, Down, chainOf, listOf}
 use Rattle.compile.specs.Explore.{whole, IsPlace}
-use Rattle.compile.specs.Bytes.{reported, placeRecord, edgeRecord, trailerOf, spread, placeOf, edgesFor, edgesOf, placesBelow, edgesBelow, edgeCount, imageBytes}
+use Rattle.compile.specs.Bytes.{reported, placeRecord, edgeRecord, trailerOf, spread, placeOf, edgesFor, edgesOf}
+use Rattle.compile.specs.Bytes.{placesBelow, edgesBelow, imageBytes}
 use Rattle.compile.specs.Write.{Numbered, EdgesAre, LinkIs, Wrote}
 use Rattle.compile.proofs.Rows.{length-list, list-at, chain-zero, chain-cons}
 use Rattle.compile.proofs.Seek.{head-of, level-of}
@@ -59,7 +56,8 @@ module _ (B : Book) (L : List Chain) where
   unfolding edgesBelow firstEdge
   length-edges zero = refl
   length-edges (suc p) =
-      omega (arith, length-append (edgesBelow B L p) (edgesOf B L p), length-edges p, length-own (getD L p []) (outs B (head (getD L p []))))
+      let own = length-own (getD L p []) (outs B (head (getD L p []))) in
+      omega (arith, length-append (edgesBelow B L p) (edgesOf B L p), length-edges p)
 
   pub place-bytes : (p : ℕ) → length (spread (form1 .place-bytes) (placesBelow B L p)) ≡ 14 * p
   place-bytes p =
@@ -112,7 +110,8 @@ pub record Placing (B : Book) (w : Rows) (n : ℕ) (d : List ℕ) (p at e : ℕ)
   pub so-far : d' ≡ sets d 0 (spread (form1 .place-bytes) (placesBelow B (listOf w n) p))
 
 -- the edge records of the place p, written from at on; those of the events es are left
-pub record Owning (B : Book) (w : Rows) (n p : ℕ) (d : List ℕ) (at : ℕ) (es : List ℕ) (left at' : ℕ) (d' : List ℕ) : Type 0 where
+pub record Owning (B : Book) (w : Rows) (n p : ℕ) (d : List ℕ) (at : ℕ) (es : List ℕ) (left at' : ℕ) (d' : List ℕ)
+    : Type 0 where
   pub so-far : sets d at (spread (form1 .edge-bytes) (edgesOf B (listOf w n) p))
       ≡ sets d' at' (spread (form1 .edge-bytes) (edgesFor B (listOf w n) (chainOf w p) es))
   pub ends : at' + 4 * left ≡ at + 4 * length (outs B (getD (w .heads) p 0))
@@ -182,18 +181,22 @@ module _ {B : Book} {w : Rows} {n : ℕ} (N : Numbered B w n) where
       let d = N .held .fallbacks-down p (omega arith) in
       rw (chain-cons w (N .held .fallbacks-down) p (omega arith)) (number-of (getD (w .fallbacks) p 0) _ (omega arith) refl))
 
-  place-is : {p e m f l h k a : ℕ} → p < n → e ≡ firstEdge (delta B) (outs B) (marks B) (listOf w n) p → h ≡ getD (w .heads) p 0
-      → m ≡ length (outs B h) → f ≡ getD (w .fallbacks) p 0 → l ≡ getD (w .levels) p 0 → LinkIs B w p k → a ≡ marks B h
+  place-is : {p e m f l h k a : ℕ} → p < n → e ≡ firstEdge (delta B) (outs B) (marks B) (listOf w n) p
+      → h ≡ getD (w .heads) p 0 → m ≡ length (outs B h) → f ≡ getD (w .fallbacks) p 0 → l ≡ getD (w .levels) p 0
+      → LinkIs B w p k → a ≡ marks B h
       → placeRecord e m f l h k a ≡ placeOf B (listOf w n) p
   unfolding placeOf
   place-is {p} {k = k} below e1 e2 e3 e4 e5 K e6 =
       let low = K .low in
       let lnk : number (listOf w n) (reported (marks B) (chainOf w p)) ≡ k =
       number-of k (reported (marks B) (chainOf w p)) (omega arith) (K .is) in
-      rw (list-at w n p below, head-of w n (N .held) p, level-of w n (N .held) p, fallback-of p below, lnk, e1, e3, e4, e5, e6, e2)
+      let at = list-at w n p below in
+      let hd = head-of w n (N .held) p in
+      let lv = level-of w n (N .held) p in
+      rw (at, hd, lv, fallback-of p below, lnk, e1, e3, e4, e5, e6, e2)
 
-  pub placing-next : {p at e m f l h k a : ℕ} {d d' d'' : List ℕ} → Placing B w n d p at e d' → p < n → h ≡ getD (w .heads) p 0
-      → m ≡ length (outs B h) → f ≡ getD (w .fallbacks) p 0 → l ≡ getD (w .levels) p 0 → LinkIs B w p k → a ≡ marks B h
+  pub placing-next : {p at e m f l h k a : ℕ} {d d' d'' : List ℕ} → Placing B w n d p at e d' → p < n
+      → h ≡ getD (w .heads) p 0 → m ≡ length (outs B h) → f ≡ getD (w .fallbacks) p 0 → l ≡ getD (w .levels) p 0 → LinkIs B w p k → a ≡ marks B h
       → d'' ≡ sets d' at (form1 .place-bytes (placeRecord e m f l h k a)) → Placing B w n d (p + 1) (at + 14) (e + m) d''
   placing-next {p} {at} {e} {m} {f} {l} {h} {k} {a} {d} {d'} P below e2 e3 e4 e5 K e6 g =
       let ends = P .ends in
@@ -287,8 +290,8 @@ module _ {B : Book} {w : Rows} {n : ℕ} (N : Numbered B w n) where
         let up = firstEdge-mono (delta B) (outs B) (marks B) L (p + 1) n (omega arith) in
         omega arith
 
-    pub edging-next : {at'' : ℕ} {d'' : List ℕ} → Wrote d' at' (spread (form1 .edge-bytes) (edgesOf B (listOf w n) p)) d'' at''
-        → Edging B w n d at (p + 1) at'' d''
+    pub edging-next : {at'' : ℕ} {d'' : List ℕ}
+        → Wrote d' at' (spread (form1 .edge-bytes) (edgesOf B (listOf w n) p)) d'' at'' → Edging B w n d at (p + 1) at'' d''
     edging-next {at''} {d''} W =
         let L = listOf w n in
         record {
@@ -301,7 +304,8 @@ module _ {B : Book} {w : Rows} {n : ℕ} (N : Numbered B w n) where
         }
 
   -- ---- the image
-  pub places-end : {d d' : List ℕ} {at : ℕ} → Wrote d 0 (spread (form1 .place-bytes) (placesBelow B (listOf w n) n)) d' at → at ≡ 14 * n
+  pub places-end : {d d' : List ℕ} {at : ℕ} → Wrote d 0 (spread (form1 .place-bytes) (placesBelow B (listOf w n) n)) d' at
+      → at ≡ 14 * n
   places-end W = let a = W .next in let b = place-bytes B (listOf w n) n in omega arith
 
   pub edges-end : {d d' : List ℕ} {at at' t : ℕ} → at ≡ 14 * n → EdgesAre B w n t

@@ -1,16 +1,16 @@
--- Two chains read to their ends: is the chain of the place p the state q with the reach r, and then the chain of the place f?
--- `Comparing` is what holds while a and b are the places reached; the rest is one turn. h, k, l and m are what was read.
--- Assumes nothing.
-use mathlib.Core.Path.{_≡_, refl, sym, ap, _∙_}
+-- Two chains read to their ends: is the chain of the place p the state q with the reach r, and then the chain of the
+-- place f? `Comparing` is what holds while a and b are the places reached; the rest is one turn. h, k, l and m are
+-- what was read. Assumes nothing.
+use mathlib.Core.Path.{_≡_, refl, sym, _∙_}
 use mathlib.Core.Logic.{_≢_}
 use mathlib.Core.Bool.{Bool, true, false, _&&_}
-use mathlib.Core.List.{List, [], _∷_}
+use mathlib.Core.List.{_∷_}
 use Prim.Native.Nat.{ℕ, _<_}
 use native.Mathlib.Omega.{arith}
 use lib.ListN.{getD}
 use lib.Dec.{eqb}
 use borrow.Author.Tests.{eq-eqb, ne-eqb}
-use Rattle.meaning.specs.Chain.{Chain, live}
+use Rattle.meaning.specs.Chain.{live}
 use Rattle.meaning.specs.Places.{sameChain}
 use Rattle.meaning.proofs.Cases.{by-eq}
 use Rattle.compile.specs.Work.{Rows, Down, chainOf}

@@ -1,12 +1,13 @@
--- The search for the place of a chain, over any key that tells chains apart. `head-of`, `level-of`, `step-of`: what the rows say
--- of a place's chain. `seek-start` .. `seek-end`: the places of a head, newest first, are passed until one has the chain.
--- `settle-in`, `settle-new`, `target-none`, `target-some`: the place after an event, from that of the rest. Assumes nothing.
+-- The search for the place of a chain, over any key that tells chains apart. `head-of`, `level-of`, `step-of`: what
+-- the rows say of a place's chain. `seek-start` .. `seek-end`: the places of a head, newest first, are passed until
+-- one has the chain. `settle-in`, `settle-new`, `target-none`, `target-some`: the place after an event, from that of
+-- the rest. Assumes nothing.
 use mathlib.Core.Path.{_≡_, refl, sym, ap, _∙_, subst}
 use mathlib.Core.Logic.{_≢_}
 use mathlib.Core.Bool.{Bool, true, false}
-use mathlib.Core.Option.{Option, none, some}
+use mathlib.Core.Option.{none, some}
 use mathlib.Core.List.{List, [], _∷_}
-use Prim.Native.Nat.{ℕ, suc, _+_, _≤_, _<_}
+use Prim.Native.Nat.{ℕ, suc, _+_, _<_}
 use native.Mathlib.Omega.{arith}
 use lib.ListN.{length, getD, set, length-set, replicate, getD-replicate}
 use lib.Seq.{getD-set-same, getD-set-other}
@@ -15,10 +16,10 @@ use Rattle.meaning.specs.Text.{Delta}
 use Rattle.meaning.specs.Chain.{Live, live, Chain, has, put, step, head, level, rest}
 use Rattle.meaning.specs.Places.{sameChain}
 use Rattle.meaning.proofs.Cases.{by-bool, by-eq, by-order, true-false}
-use Rattle.meaning.proofs.Keys.{Rule, rule-has, sameChain-eq, sameChain-iff}
+use Rattle.meaning.proofs.Keys.{Rule, sameChain-iff}
 use Rattle.meaning.proofs.Rules.{whole-rule}
-use Rattle.compile.specs.Work.{Rows, Down, chainOf, Latest, Held, Fit}
-use Rattle.compile.specs.Explore.{Key, whole, restAfter, IsPlace, Seen, IsSeen, Settled, Finds}
+use Rattle.compile.specs.Work.{Rows, chainOf, Latest, Held, Fit}
+use Rattle.compile.specs.Explore.{Key, whole, restAfter, Seen, IsSeen, Settled, Finds}
 use Rattle.compile.proofs.Rows.{chain-zero, chain-cons}
 
 cons-nil : {A : Type 0} {x : Live} {c : Chain} → x ∷ c ≡ [] → A
@@ -110,7 +111,8 @@ pub record Seek (key : Key) (w : Rows) (n q r f p : ℕ) : Type 0 where
   pub at : 0 < p → (p < n) × (getD (w .heads) p 0 ≡ q)
   pub after : (j : ℕ) → p < j → j < n → key (chainOf w j) ≡ key (live q r ∷ chainOf w f) → ⊥
 
-module _ (key : Key) (δ : Delta) (R : Rule key δ) (newest earlier : List ℕ) (w : Rows) (n : ℕ) (F : Fit newest earlier w n) where
+module _ (key : Key) (δ : Delta) (R : Rule key δ) (newest earlier : List ℕ) (w : Rows) (n : ℕ)
+    (F : Fit newest earlier w n) where
   -- a place whose chain is not empty
   place-cons : (i : ℕ) (x : Live) (c : Chain) → key (chainOf w i) ≡ key (x ∷ c)
       → (0 < i) × (key (chainOf w (getD (w .fallbacks) i 0)) ≡ key c) × (getD (w .heads) i 0 ≡ x .state)
@@ -253,7 +255,8 @@ module _ {newest earlier : List ℕ} {w : Rows} {n : ℕ} (F : Fit newest earlie
   pub seek-found : {q r f p : ℕ} {t : Bool} → p ≢ 0 → Seek whole w n q r f p → t ≡ same w q r f p → t ≡ true
       → Finds whole w n q r f p
   seek-found {q} {r} {f} {p} z S h i =
-      seek-hit whole stays (whole-rule stays) newest earlier w n F q r f (same w q r f) (whole-tests w n q r f) p z S (sym h ∙ i)
+      seek-hit whole stays (whole-rule stays) newest earlier w n F q r f (same w q r f) (whole-tests w n q r f) p z S
+      (sym h ∙ i)
 
   pub seek-none : {q r f p : ℕ} → p ≡ 0 → Seek whole w n q r f p → Finds whole w n q r f 0
   seek-none {q} {r} {f} {p} =

@@ -1,22 +1,20 @@
--- The image of a book in bytes shows the book: its questions are those of `imageOf`. `Fine B L` is what an accepted book with few
--- enough places and edges gives; L numbers its chains. `place-shown`, `edge-shown`: the records in the bytes; `image-alike`: every
--- question below the counts has the answer of `imageOf`, so that walks and runs are the same. Assumes nothing.
+-- The image of a book in bytes shows the book: its questions are those of `imageOf`. `Fine B L` is what an accepted
+-- book with few enough places and edges gives; L numbers its chains. `place-shown`, `edge-shown`: the records in the
+-- bytes; `image-alike`: every question below the counts has the answer of `imageOf`, so that walks and runs are the
+-- same. Assumes nothing.
 use mathlib.Core.Path.{_≡_, refl, sym, ap, _∙_, subst}
 use mathlib.Core.Logic.{_≢_}
-use mathlib.Core.Bool.{Bool, true, false}
-use mathlib.Core.Option.{Option, none, some}
+use mathlib.Core.Option.{Option, some}
 use mathlib.Core.List.{List, [], _∷_, _++_, map, List·Memᴰ, List·Memᴰ·head}
-use Prim.Native.Nat.{ℕ, zero, suc, _+_, _*_, _-_, _≤_, _<_}
+use Prim.Native.Nat.{ℕ, zero, suc, _+_, _-_, _≤_, _<_}
 use native.Mathlib.Omega.{arith}
 use lib.ListN.{length, getD, length-append, List·getD-append, List·getD-map}
 use lib.Seq.{getD-append-add}
 use lib.Dec.{eqb}
-use borrow.Author.Tests.{eqb-true, eq-eqb, ne-eqb}
-use Rattle.meaning.specs.Choice.{when}
-use Rattle.meaning.specs.Chain.{Live, Chain, chain, step, head, level, rest}
+use Rattle.meaning.specs.Chain.{Live, Chain, step, head, level, rest}
 use Rattle.meaning.specs.Places.{number, Numbers}
 use Rattle.meaning.specs.Book.{Book, delta, outs, marks}
-use Rattle.meaning.specs.Questions.{Image, indexFrom, eventsAt, firstEdge, targetsAt, targetsBelow, imageOf, Levels}
+use Rattle.meaning.specs.Questions.{Image, indexFrom, firstEdge, targetsBelow, imageOf, Levels}
 use Rattle.meaning.proofs.Cases.{by-bool, by-eq, by-order, none-some}
 use Rattle.meaning.proofs.Book.{Rising, Under, delta-names, delta-only}
 use Rattle.meaning.proofs.Chain.{chain-is}
@@ -121,7 +119,8 @@ module _ {B : Book} {L : List Chain} (F : Fine B L) where
   pub place-shown : (p : ℕ) → p < length L → placeAt form1 (imageBytes form1 B L) p ≡ placeOf B L p
   place-shown p l = image-place B L p l (place-fits p l)
 
-  pub count-shown : (p : ℕ) → p < length L → placeAt form1 (imageBytes form1 B L) p .count ≡ length (outs B (head (getD L p [])))
+  pub count-shown : (p : ℕ) → p < length L
+      → placeAt form1 (imageBytes form1 B L) p .count ≡ length (outs B (head (getD L p [])))
   unfolding placeOf
   count-shown p l = ap (λ (r : PlaceRecord). r .count) (place-shown p l)
 
@@ -173,7 +172,8 @@ module _ {B : Book} {L : List Chain} (F : Fine B L) where
       image-edge B L (firsts p + i) blank (omega arith) small ∙ e
 
   -- ---- the targets of all edges
-  edges-targets : (n : ℕ) → map (λ (r : EdgeRecord). r .target) (edgesBelow B L n) ≡ targetsBelow (delta B) (outs B) (marks B) L n
+  edges-targets : (n : ℕ)
+      → map (λ (r : EdgeRecord). r .target) (edgesBelow B L n) ≡ targetsBelow (delta B) (outs B) (marks B) L n
   unfolding edgesBelow targetsBelow
   edges-targets zero = refl
   edges-targets (suc n) =
@@ -185,7 +185,8 @@ module _ {B : Book} {L : List Chain} (F : Fine B L) where
       own [] = refl
       own (a ∷ es) = ap {B = List ℕ} (λ r. number L (step (delta B) (getD L n []) a) ∷ r) (own es)
 
-  targets-small : (n : ℕ) → n ≤ length L → (j : ℕ) → j < length (edgesBelow B L n) → getD (edgesBelow B L n) j blank .target < length L
+  targets-small : (n : ℕ) → n ≤ length L → (j : ℕ) → j < length (edgesBelow B L n)
+      → getD (edgesBelow B L n) j blank .target < length L
   unfolding edgesBelow
   targets-small zero l j h = absurd (let w : ⊥ = omega arith in w)
   targets-small (suc n) l j h =

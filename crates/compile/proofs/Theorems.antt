@@ -1,25 +1,25 @@
 -- WHAT A COMPILE GIVES. xs is any book's bytes, B the book that they hold.
 --   compiled                    an accepted answer: the chains that it numbers, and that they are few enough
 --   compiled-accepted           the image of a book that compiles is accepted, with the places and edges of the answer
---   compiled-alike              its questions are those of `imageOf`; compiled-walk, compiled-run: and so are walks and runs
+--   made-alike                  its questions are those of `imageOf`; made-walk, made-run: and so are walks and runs
 --   compiled-length             its length is the answer's, and at most 30,732
---   compiled-memory             the lent memory then starts with the image, and is as it was past its end
+--   compiled-memory, compiled-start   the lent memory then starts with the image, and is as it was past its end
 --   refused-14, refused-15      an accepted book is refused for size exactly where more than 1,024 chains are reachable, or
 --                               their places need more than 4,096 edges
 --   room-enough                 with 30,732 bytes of room it is never refused 16
 --   note-answer, note-memory    what stands before an accepted book's state table changes nothing
 -- Assumes nothing.
-use mathlib.Core.Path.{_≡_, refl, sym, ap, _∙_, subst}
+use mathlib.Core.Path.{_≡_, refl, sym, ap, _∙_}
 use mathlib.Core.Logic.{_≢_, _↔_}
-use mathlib.Core.Bool.{Bool, true, false, _&&_}
+use mathlib.Core.Bool.{Bool, true, _&&_}
 use mathlib.Core.Option.{Option, none, some}
 use mathlib.Core.List.{List, [], _∷_, _++_}
-use Prim.Native.Nat.{ℕ, _+_, _*_, _≤_, _<_}
+use Prim.Native.Nat.{ℕ, _+_, _≤_, _<_}
 use native.Mathlib.Omega.{arith}
-use lib.ListN.{length, getD, drop}
-use lib.Seq.{sets, length-sets}
+use lib.ListN.{length, take, drop}
+use lib.Seq.{sets, sets-eq, take-at, drop-at}
 use lib.Dec.{leb, ltb}
-use borrow.Author.Tests.{lt-ltb, le-ltb, leb-true, ltb-true, ltb-false}
+use borrow.Author.Tests.{lt-ltb, leb-true, ltb-true, ltb-false}
 use Rattle.meaning.specs.Text.{Text}
 use Rattle.meaning.specs.Chain.{Chain}
 use Rattle.meaning.specs.Places.{places, MoreThan}
@@ -132,7 +132,8 @@ abbrev below : ℕ → List Rule → Bool
 below k [] = true
 below k (r ∷ rs) = leb (r .number) k && below k rs
 
-judged-below : (k : ℕ) (rs : List Rule) (a b : ℕ) {n p : ℕ} → below k rs ≡ true → judged rs (accepted a b 0 0) ≡ refused n p → n ≤ k
+judged-below : (k : ℕ) (rs : List Rule) (a b : ℕ) {n p : ℕ} → below k rs ≡ true
+    → judged rs (accepted a b 0 0) ≡ refused n p → n ≤ k
 judged-below k [] a b u e = refused-accepted (sym e)
 judged-below k (r ∷ rs) a b {n} {p} u e =
     let v = and-true (leb (r .number) k) (below k rs) u in
@@ -163,7 +164,8 @@ module _ (xs : List ℕ) where
       e ∙ (λ i. accepted S E (sym z i) (sym y i))
 
   book-first : (room l q t z : ℕ) → compileAnswer xs room ≡ accepted l q t z
-      → (S : ℕ) × (E : ℕ) × (checkBook xs ≡ accepted S E 0 0) × (madeOf (bookOf xs) room (chainsOf (bookOf xs)) ≡ accepted l q t z)
+      → (S : ℕ) × (E : ℕ) × (checkBook xs ≡ accepted S E 0 0)
+      × (madeOf (bookOf xs) room (chainsOf (bookOf xs)) ≡ accepted l q t z)
   unfolding compileAnswer
   book-first room l q t z e = go (checkBook xs) refl
     where
@@ -194,7 +196,8 @@ module _ (xs : List ℕ) where
       }
 
   -- ---- AN ACCEPTED ANSWER
-  pub compiled : (room l q t z : ℕ) → compileAnswer xs room ≡ accepted l q t z → (L : List Chain) × Compiles (bookOf xs) L room l q t
+  pub compiled : (room l q t z : ℕ) → compileAnswer xs room ≡ accepted l q t z
+      → (L : List Chain) × Compiles (bookOf xs) L room l q t
   compiled room l q t z e = go (chainsOf (bookOf xs)) refl
     where
       b : (S : ℕ) × (E : ℕ) × (checkBook xs ≡ accepted S E 0 0) × (madeOf (bookOf xs) room (chainsOf (bookOf xs)) ≡ accepted l q t z)
@@ -217,6 +220,19 @@ module _ (xs : List ℕ) where
   unfolding compileMemory
   compiled-memory l q t z out e = rw e
 
+  -- the image is what the memory starts with, and past its end the memory is as it was
+  pub compiled-start : (l q t z : ℕ) (out : List ℕ) → compileAnswer xs (length out) ≡ accepted l q t z
+      → (take l (compileMemory xs out) ≡ imageOfBook (bookOf xs)) × (drop l (compileMemory xs out) ≡ drop l out)
+  compiled-start l q t z out e =
+      let C = compiled (length out) l q t z e .1 in
+      let n : length (imageOfBook (bookOf xs)) ≡ l = made-length C .0 in
+      let fit = C .fits in
+      let bs = imageOfBook (bookOf xs) in
+      let k : 0 + length bs ≡ l = omega arith in
+      let m : compileMemory xs out ≡ bs ++ drop l out =
+      compiled-memory l q t z out e ∙ sets-eq bs out 0 (omega arith) ∙ rw k in
+      (rw m (take-at bs (drop l out) l n), rw m (drop-at bs (drop l out) l n))
+
   -- ---- REFUSED FOR SIZE
   module _ {S E : ℕ} (A : checkBook xs ≡ accepted S E 0 0) (room : ℕ) where
     answer-of : (o : Option (List Chain)) → chainsOf (bookOf xs) ≡ o → compileAnswer xs room ≡ madeOf (bookOf xs) room o
@@ -235,7 +251,8 @@ module _ (xs : List ℕ) where
         none-of none f e = f
         none-of (some L) f e =
             by-made (bookOf xs) L room (refused 14 0) (sym (answer-of (some L) f) ∙ e)
-            (λ h g. numbers-differ g (omega arith)) (λ h k g. numbers-differ g (omega arith)) (λ h k g. refused-accepted (sym g))
+            (λ h g. numbers-differ g (omega arith)) (λ h k g. numbers-differ g (omega arith))
+            (λ h k g. refused-accepted (sym g))
 
     -- with at most 1,024 places: their edges are more than 4,096
     pub refused-15 : (L : List Chain) → chainsOf (bookOf xs) ≡ some L

@@ -1,33 +1,35 @@
--- The image of a book is accepted: `image-accepted`, what `checkImage` answers of its bytes. `places-right`, `edges-right`: every
--- place record and every edge record obeys the rules of 18 and 19. Assumes nothing.
+-- The image of a book is accepted: `image-accepted`, what `checkImage` answers of its bytes. `places-right`,
+-- `edges-right`: every place record and every edge record obeys the rules of 18 and 19. Assumes nothing.
 use mathlib.Core.Path.{_≡_, refl, sym, ap, _∙_, subst}
 use mathlib.Core.Logic.{_≢_}
-use mathlib.Core.Bool.{Bool, true, false}
-use mathlib.Core.Option.{Option, none, some}
+use mathlib.Core.Bool.{true}
+use mathlib.Core.Option.{none}
 use mathlib.Core.List.{List, [], _∷_, List·Memᴰ, List·Memᴰ·head, List·Memᴰ·tail}
-use Prim.Native.Nat.{ℕ, zero, suc, _+_, _*_, _≤_, _<_}
+use Prim.Native.Nat.{ℕ, zero, suc, _+_, _≤_, _<_}
 use native.Mathlib.Omega.{arith}
 use lib.ListN.{length, getD}
-use lib.Dec.{eqb, leb, ltb}
-use borrow.Author.Tests.{eqb-true, eq-eqb, ne-eqb, le-leb, lt-ltb}
-use Rattle.meaning.specs.Choice.{when, then}
+use lib.Dec.{eqb}
+use borrow.Author.Tests.{eq-eqb, ne-eqb, le-leb, lt-ltb}
+use Rattle.meaning.specs.Choice.{when}
 use Rattle.meaning.specs.Chain.{Live, Chain, step, head, level, rest}
 use Rattle.meaning.specs.Places.{number}
 use Rattle.meaning.specs.Book.{Book, delta, outs, marks}
 use Rattle.meaning.specs.Questions.{firstEdge}
-use Rattle.meaning.specs.Answer.{Answer, accepted}
-use Rattle.meaning.proofs.Cases.{by-bool, by-eq, by-option, none-some}
+use Rattle.meaning.specs.Answer.{accepted}
+use Rattle.meaning.proofs.Cases.{by-bool, by-eq}
 use Rattle.meaning.proofs.Book.{rising-away, delta-only}
 use Rattle.meaning.proofs.Places.{number-is, number-zero, number-step, place-stacked}
 use Rattle.meaning.proofs.Rest.{step-away}
 use Rattle.meaning.proofs.Fails.{level-step}
 use Rattle.meaning.proofs.Edges.{firstEdge-suc}
-use Rattle.image.specs.Form.{PlaceRecord, EdgeRecord, Trailer, form1, sizeOf, placeAt, edgeAt, trailerOf, hasLetters}
-use Rattle.image.specs.Rules.{countsRight, trailerRight, startRight, otherRight, linkOf, placeRight, placesFault, edgeRight, eventsFault, edgesFault, imageRules, checkImage}
-use Rattle.compile.specs.Bytes.{reported, edgeRecord, placeOf, edgeCount, imageBytes}
+use Rattle.image.specs.Form.{PlaceRecord, EdgeRecord, form1, sizeOf, placeAt, edgeAt}
+use Rattle.image.specs.Rules.{trailerRight, startRight, otherRight, placeRight, placesFault, edgeRight, eventsFault}
+use Rattle.image.specs.Rules.{edgesFault, imageRules, checkImage}
+use Rattle.compile.specs.Bytes.{reported, placeOf, edgeCount, imageBytes}
 use Rattle.compile.proofs.Opening.{first-zero}
 use Rattle.compile.proofs.Back.{length-image, image-trailer, image-letters}
-use Rattle.compile.proofs.Shown.{Fine, model-levels, head-small, fallback-low, place-shown, count-shown, level-shown, target-low, edge-shown}
+use Rattle.compile.proofs.Shown.{Fine, model-levels, head-small, fallback-low, place-shown, count-shown}
+use Rattle.compile.proofs.Shown.{level-shown, target-low, edge-shown}
 
 event-mem : (es : List ℕ) (i : ℕ) → i < length es → List·Memᴰ (getD es i 0) es
 event-mem [] i l = absurd (let w : ⊥ = omega arith in w)
@@ -73,7 +75,8 @@ module _ {B : Book} {L : List Chain} (F : Fine B L) where
 
   -- the link of a place other than 0
   link-right : (p : ℕ) (x : Live) (c : Chain) → p < length L → getD L p [] ≡ x ∷ c → (f : ℕ) → getD L f [] ≡ c
-      → number L (reported (marks B) (x ∷ c)) ≡ when (eqb (marks B (x .state)) 0) (number L (reported (marks B) (getD L f []))) p
+      → number L (reported (marks B) (x ∷ c))
+      ≡ when (eqb (marks B (x .state)) 0) (number L (reported (marks B) (getD L f []))) p
   link-right p x c l e f g =
       by-bool (eqb (marks B (x .state)) 0) (λ m. rw (m, g)) (λ m. rw m (number-is L (F .numbers .once) p (x ∷ c) l e))
 
@@ -134,7 +137,8 @@ module _ {B : Book} {L : List Chain} (F : Fine B L) where
   places-right (suc left) p sum e g =
       let s = place-shown F p (omega arith) in
       let n = first-next p (omega arith) in
-      rw (place-right p sum (omega arith) g) (places-right left (p + 1) (sum + placeAt form1 bytes p .count) (omega arith) (omega arith))
+      rw (place-right p sum (omega arith) g)
+      (places-right left (p + 1) (sum + placeAt form1 bytes p .count) (omega arith) (omega arith))
     where
       first-next : (p : ℕ) → p < length L → firsts (p + 1) ≡ firsts p + placeAt form1 bytes p .count
       first-next p l =
@@ -169,7 +173,8 @@ module _ {B : Book} {L : List Chain} (F : Fine B L) where
     edge = edgeAt form1 bytes (length L)
 
     edge-right : (i floor : ℕ) → i < length own → floor ≤ getD own i 0
-        → edgeRight (length L) (place p .level) floor (edge (firsts p + i)) (place (edge (firsts p + i) .target) .level) ≡ true
+        → edgeRight (length L) (place p .level) floor (edge (firsts p + i)) (place (edge (firsts p + i) .target) .level)
+        ≡ true
     unfolding edgeRight
     edge-right i floor k low =
         let a = getD own i 0 in
@@ -212,7 +217,8 @@ module _ {B : Book} {L : List Chain} (F : Fine B L) where
       let w : suc p ≡ p + 1 = omega arith in
       let n : firsts (p + 1) ≡ firsts p + length (outs B (head (getD L p []))) = rw w at s in
       let own = events-right p l (length (outs B (head (getD L p [])))) 0 0 (omega arith) (λ h. omega arith) in
-      rw (c, z, own) (edges-right left (p + 1) (firsts p + 0 + length (outs B (head (getD L p [])))) (omega arith) (omega arith))
+      rw (c, z, own)
+      (edges-right left (p + 1) (firsts p + 0 + length (outs B (head (getD L p [])))) (omega arith) (omega arith))
 
   -- ---- THE IMAGE IS ACCEPTED
   pub image-accepted : checkImage bytes ≡ accepted (length L) (edgeCount B L) 0 0

@@ -1,8 +1,8 @@
--- Bytes written one after the other are the records of the image. `place-sets`, `edge-sets`, `trailer-sets`: one record.
--- `spread-snoc`, `spread-append`: records one after the other. Assumes nothing.
+-- Bytes written one after the other are the records of the image. `place-sets`, `edge-sets`, `trailer-sets`: one
+-- record. `spread-snoc`, `spread-append`: records one after the other. Assumes nothing.
 use mathlib.Core.Path.{_≡_, refl, sym, ap, _∙_}
 use mathlib.Core.List.{List, [], _∷_, _++_, append-assoc, append-nil}
-use Prim.Native.Nat.{ℕ, suc, _+_, _*_}
+use Prim.Native.Nat.{ℕ, _+_, _*_}
 use native.Mathlib.Omega.{arith}
 use native.Mathlib.Nat.{mul-suc, mul-zero}
 use lib.ListN.{length, getD, set, length-append}
@@ -73,7 +73,8 @@ module _ {A : Type 0} (g : A → List ℕ) where
 pub wrote-none : (d : List ℕ) (at : ℕ) → Wrote d at [] d at
 wrote-none d at = record { is = refl; next = omega arith }
 
-pub wrote-then : {d d' d'' bs cs : List ℕ} {at m r : ℕ} → Wrote d at bs d' m → Wrote d' m cs d'' r → Wrote d at (bs ++ cs) d'' r
+pub wrote-then : {d d' d'' bs cs : List ℕ} {at m r : ℕ} → Wrote d at bs d' m → Wrote d' m cs d'' r
+    → Wrote d at (bs ++ cs) d'' r
 wrote-then {d} {bs = bs} {cs = cs} {at = at} {m = m} X Y =
     let l = length-append bs cs in
     let a = X .next in

@@ -1,4 +1,5 @@
--- WHAT A COMPILE ANSWERS, and the lent memory afterwards. Document 01, "Refusal numbers" 14 to 16, after those of the book.
+-- WHAT A COMPILE ANSWERS, and the lent memory afterwards. Document 01, "Refusal numbers" 14 to 16, after those of the
+-- book.
 --   chainsOf B              the places of the book: its chains, numbered; none where there are more than 1,024
 --   madeOf B room P         14, 15, 16, or image length, places and edges
 --   imageOfBook B           the bytes of the book's image; none where there are too many places
@@ -29,7 +30,9 @@ madeOf B room none = refused 14 0
 madeOf B room (some L) =
     let q = length L in
     let t = edgeCount B L in
-    judged (rule 15 (ltb (form1 .most-edges) t) 0 ∷ rule 16 (ltb room (sizeOf form1 q t)) 0 ∷ []) (accepted (sizeOf form1 q t) q t 0)
+    judged
+    (rule 15 (ltb (form1 .most-edges) t) 0 ∷ rule 16 (ltb room (sizeOf form1 q t)) 0 ∷ [])
+    (accepted (sizeOf form1 q t) q t 0)
 
 abbrev pub bytesFor : Book → Option (List Chain) → List ℕ
 bytesFor B none = []

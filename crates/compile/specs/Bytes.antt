@@ -6,7 +6,6 @@
 --   edgeCount B L       the number of all edges
 --   spread g rs         the bytes of records, one after the other
 --   imageBytes f B L    THE IMAGE: place records, edge records, trailer
-use mathlib.Core.Bool.{Bool}
 use mathlib.Core.List.{List, [], _∷_, _++_, map}
 use Prim.Native.Nat.{ℕ, zero, suc}
 use lib.ListN.{length, getD}
@@ -42,8 +41,8 @@ module _ (B : Book) (L : List Chain) where
   unfoldable pub placeOf : ℕ → PlaceRecord
   placeOf p =
       let c = getD L p [] in
-      placeRecord (firstEdge (delta B) (outs B) (marks B) L p) (length (outs B (head c))) (number L (rest c)) (level c) (head c)
-      (number L (reported (marks B) c)) (marks B (head c))
+      placeRecord (firstEdge (delta B) (outs B) (marks B) L p) (length (outs B (head c))) (number L (rest c)) (level c)
+      (head c) (number L (reported (marks B) c)) (marks B (head c))
 
   abbrev pub edgesFor : Chain → List ℕ → List EdgeRecord
   edgesFor c es = map (λ (a : ℕ). edgeRecord a (number L (step (delta B) c a))) es

@@ -12,8 +12,7 @@
 --   Opened δ out p L    L is the list of the chains when the places below p are opened
 --   Explored            what the exploration ensures
 use mathlib.Core.Path.{_≡_}
-use mathlib.Core.Bool.{Bool}
-use mathlib.Core.Option.{Option, none, some}
+use mathlib.Core.Option.{none, some}
 use mathlib.Core.List.{List, [], _∷_}
 use Prim.Native.Nat.{ℕ, suc, _*_, _≤_, _<_}
 use lib.ListN.{length, getD, set}
@@ -104,7 +103,8 @@ pub data Opened (δ : Delta) (out : ℕ → List ℕ) : ℕ → List Chain → T
   start : Opened δ out 0 ([] ∷ [])
   next : {p : ℕ} {L : List Chain} → Opened δ out p L → p < length L → Opened δ out (suc p) (opened δ out p L)
 
--- r is 0 exactly where there are more than 1,024 places; else the arrays hold the r places, in their order, with t edges
+-- r is 0 exactly where there are more than 1,024 places; else the arrays hold the r places, in their order, with t
+-- edges
 pub record Explored (B : Book) (newest earlier : List ℕ) (w : Rows) (r t : ℕ) : Type 0 where
   pub over : r ≡ 0 → places (delta B) (outs B) 1024 ≡ none
   pub done : 0 < r → places (delta B) (outs B) 1024 ≡ some (listOf w r)

@@ -1,5 +1,5 @@
--- The work arrays of a compile: for each place its head, its level and its fallback; for each head its newest place; for each
--- place the earlier place of the same head.
+-- The work arrays of a compile: for each place its head, its level and its fallback; for each head its newest place;
+-- for each place the earlier place of the same head.
 --   Rows, rows          head, level and fallback of each place
 --   Down                each entry but the first is below its index
 --   chainOf w p         the chain of the place p, by its fallbacks
@@ -8,7 +8,6 @@
 --   Held                the rows are those of n places
 --   Fit                 and the places of each head are linked, newest first
 use mathlib.Core.Path.{_≡_}
-use mathlib.Core.Bool.{Bool}
 use mathlib.Core.List.{List, [], _∷_, _++_}
 use Prim.Native.Nat.{ℕ, zero, suc, _≤_, _<_}
 use lib.ListN.{length, getD}

@@ -1,14 +1,14 @@
-// The places of a book, explored breadth first in the work arrays. The book is its state table, its state count and the number of
-// each state's first edge; no edges are kept: where an edge leads is found again when it is written.
-ghost use mathlib.Core.Option.{some};
+// The places of a book, explored breadth first in the work arrays. The book is its state table, its state count and
+// the number of each state's first edge; no edges are kept: where an edge leads is found again when it is written.
 ghost use mathlib.Core.List.{[]};
-ghost use Prim.Native.Nat.{_+_, _≤_, _<_};
-ghost use Rattle.meaning.specs.Chain.{put, step};
+ghost use Prim.Native.Nat.{_+_, _<_};
+ghost use Rattle.meaning.specs.Chain.{step};
 ghost use Rattle.meaning.specs.Places.{meet, opened};
 ghost use Rattle.meaning.specs.Book.{delta, outs};
 ghost use Rattle.book.specs.Model.{tableBook};
 ghost use Rattle.compile.specs.Work.{rows, chainOf, listOf, Fit};
-ghost use Rattle.compile.specs.Explore.{whole, Ready, Stands, IsPlace, Seen, RestAt, StepAt, RestMet, Grown, Opened, Explored};
+ghost use Rattle.compile.specs.Explore.{whole, Ready, Stands, IsPlace, Seen, RestAt, StepAt, RestMet, Grown};
+ghost use Rattle.compile.specs.Explore.{Opened, Explored};
 use crate::work::add;
 use crate::work::entry;
 use crate::work::nothing_seen;
@@ -64,8 +64,8 @@ fn target(
     }
 }
 
-// The place of what the event makes of the rest of the chain of p. A chain has at most 511 members, and so the calls are at most
-// 511 deep.
+// The place of what the event makes of the rest of the chain of p. A chain has at most 511 members, so the calls are at most
+// 511 deep: some 180 bytes of stack each, 90 KB in all.
 fn rest_place(
     table: &[u8],
     states: usize,
@@ -279,8 +279,8 @@ fn open_place(
     n
 }
 
-// The places of the book and their edges, counted; no places where there are more than 1,024. The search goes on however many
-// edges there are, as too many places are refused first.
+// The places of the book and their edges, counted; no places where there are more than 1,024. The search goes on
+// however many edges there are, as too many places are refused first.
 pub(crate) fn explore(
     table: &[u8],
     states: usize,

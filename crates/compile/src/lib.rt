@@ -1,5 +1,5 @@
-// The compile: a book's image into lent memory, or the number of its fault. The places are counted first and written afterwards,
-// so that a refusal leaves the memory as it was.
+// The compile: a book's image into lent memory, or the number of its fault. The places are counted first and written
+// afterwards, so that a refusal leaves the memory as it was.
 mod explore;
 mod work;
 mod write;
@@ -85,7 +85,8 @@ fn compile_table(table: &[u8], states: usize, out: &mut [u8]) -> Compiled
     }
 }
 
-// The image of a book, whatever its bytes: image length, places and edges; or refused, by the book's numbers, 14, 15 or 16.
+// The image of a book, whatever its bytes: image length, places and edges; or refused, by the book's numbers, 14, 15
+// or 16.
 pub fn compile(book: &[u8], out: &mut [u8]) -> Compiled
     ensures answer { λ r. ⌜ told r ≡ compileAnswer (now (book .entry)) (length (now (out .entry))) ⌝ }
     ensures memory { λ r. ⌜ now (out .exit) ≡ compileMemory (now (book .entry)) (now (out .entry)) ⌝ }

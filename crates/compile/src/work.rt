@@ -1,5 +1,5 @@
-// The work arrays: every access is here. `newest` is the newest place of each head and `earlier` the earlier place of the
-// same head, 0 for none; `heads`, `levels` and `fallbacks` are the places' own.
+// The work arrays: every access is here. `newest` is the newest place of each head and `earlier` the earlier place of
+// the same head, 0 for none; `heads`, `levels` and `fallbacks` are the places' own.
 ghost use mathlib.Core.Path.{_≡_};
 ghost use mathlib.Core.Option.{some};
 ghost use mathlib.Core.List.{[], _∷_};
@@ -30,8 +30,8 @@ pub(crate) fn entry(t: &[u16; 1024], place: usize) -> usize
     wide(t[place])
 }
 
-// Whether the chain of the place p is the state head with the level, and then the chain of the place rest: both chains are
-// read to their ends.
+// Whether the chain of the place p is the state head with the level, and then the chain of the place rest: both
+// chains are read to their ends.
 fn same_chain(
     heads: &[u16; 1024],
     levels: &[u16; 1024],
@@ -69,7 +69,8 @@ fn same_chain(
     b == 0
 }
 
-// The place below n whose chain is the state head with the level, and then the chain of the place rest; 0 where there is none.
+// The place below n whose chain is the state head with the level, and then the chain of the place rest; 0 where there
+// is none.
 fn find(
     newest: &[u16; 512],
     earlier: &[u16; 1024],
@@ -127,7 +128,8 @@ pub(crate) fn nothing_seen() -> [u8; 512]
     seen
 }
 
-// The place of the chain that has the state head with the level put on the chain of the place rest, whose states are seen.
+// The place of the chain that has the state head with the level put on the chain of the place rest, whose states are
+// seen.
 pub(crate) fn settle(
     newest: &[u16; 512],
     earlier: &[u16; 1024],
@@ -161,8 +163,8 @@ pub(crate) fn settle(
     )
 }
 
-// The chain that has the state head with the level put on the chain of the place rest, whose states are seen, is met: the number of
-// places, 1,025 where there is no room for it.
+// The chain that has the state head with the level put on the chain of the place rest, whose states are seen, is met:
+// the number of places, 1,025 where there is no room for it.
 pub(crate) fn add(
     newest: &mut [u16; 512],
     earlier: &mut [u16; 1024],

@@ -2,7 +2,8 @@
 use borrow.Author.Needs.{needs}
 use Rattle.book.proofs.Judged.{table-part}
 use Rattle.image.proofs.Verdict.{t}
-use Rattle.compile.proofs.Answers.{ready-book, table-fits, refused-answer, refused-memory, fine-check, fine-answer, fine-memory}
+use Rattle.compile.proofs.Answers.{ready-book, table-fits, refused-answer, refused-memory, fine-check}
+use Rattle.compile.proofs.Answers.{fine-answer, fine-memory}
 use Rattle.compile.proofs.compile.Statement.{statement}
 use Rattle.compile.proofs.compile.Tie as tie
 
@@ -29,8 +30,12 @@ part-compile-table-end c = search needs
 
 compile-table-requires : tie.Need-compile-table-requires
 compile-table-requires c κs =
-    let e = c .before .before .before .before .before .before .check-book .ensures in
-    ready-book _ (fine-check _ e (c .before .before .before .before .before .before .before .before .before .args .out .now) (c .before .before .before .before .checked2 .given .1)) (table-part _ _ (c .before .before .table-at .ensures))
+    let at-checked2 = c .before .before .before .before in
+    let at-check-book = at-checked2 .before .before in
+    let at-start = at-check-book .before .before .before in
+    let e = at-check-book .check-book .ensures in
+    ready-book _ (fine-check _ e (at-start .args .out .now) (at-checked2 .checked2 .given .1))
+    (table-part _ _ (c .before .before .table-at .ensures))
 
 returns : tie.Need-returns
 returns c =
@@ -43,11 +48,17 @@ same-length c = search needs
 
 returns-2 : tie.Need-returns-2
 returns-2 c =
-    let e = c .before .before .before .before .before .before .before .before .before .check-book .ensures in
-    let r = c .before .before .before .before .before .before .before .checked2 .given .1 in
-    let t = table-part _ _ (c .before .before .before .before .before .table-at .ensures) in
-    let out = c .before .before .before .before .before .before .before .before .before .before .before .before .args .out .now in
-    (fine-answer _ e out r t (c .before .before .compile-table .ensures), fine-memory _ e out r t (c .before .before .compile-table .ensures))
+    let at-table-at = c .before .before .before .before .before in
+    let at-checked2 = at-table-at .before .before in
+    let at-check-book = at-checked2 .before .before in
+    let at-start = at-check-book .before .before .before in
+    let e = at-check-book .check-book .ensures in
+    let r = at-checked2 .checked2 .given .1 in
+    let t = table-part _ _ (at-table-at .table-at .ensures) in
+    let out = at-start .args .out .now in (
+      fine-answer _ e out r t (c .before .before .compile-table .ensures),
+      fine-memory _ e out r t (c .before .before .compile-table .ensures),
+    )
 
 pub compile-spec : {M : Type 1} → statement M
 compile-spec =

@@ -2,7 +2,8 @@
 use mathlib.Core.Path.{refl}
 use native.Mathlib.Omega.{arith}
 use borrow.Author.Needs.{needs}
-use Rattle.compile.proofs.Answers.{makes-14, makes-15, makes-16, numbered, makes-done, few-places, makes-told, stands-first, ready-first}
+use Rattle.compile.proofs.Answers.{makes-14, makes-15, makes-16, numbered, makes-done, few-places, makes-told}
+use Rattle.compile.proofs.Answers.{stands-first, ready-first}
 use Rattle.compile.proofs.Rows.{fit-start}
 use Rattle.compile.proofs.compile_table.Statement.{statement}
 use Rattle.compile.proofs.compile_table.Tie as tie
@@ -12,7 +13,9 @@ firsts-requires c κs = search needs
 
 explore-requires : tie.Need-explore-requires
 explore-requires c κs =
-    (ready-first (c .before .before .before .before .before .before .before .before .before .pre) (c .before .before .before .before .before .before .firsts .ensures), fit-start _ _ _ _ _ refl refl refl refl refl)
+    let at-firsts = c .before .before .before .before .before .before in
+    let at-start = at-firsts .before .before .before in
+    (ready-first (at-start .pre) (at-firsts .firsts .ensures), fit-start _ _ _ _ _ refl refl refl refl refl)
 
 refused-requires : tie.Need-refused-requires
 refused-requires c κs = search needs
@@ -25,7 +28,8 @@ refused-requires-2 c κs = search needs
 
 returns-2 : tie.Need-returns-2
 returns-2 c =
-    makes-told (c .refused2 .ensures) (makes-15 (c .before .before .before .explore .ensures) _ (c .before .before .if1 .left) (c .before .if2 .taken))
+    makes-told (c .refused2 .ensures)
+    (makes-15 (c .before .before .before .explore .ensures) _ (c .before .before .if1 .left) (c .before .if2 .taken))
 
 mul-length : tie.Need-mul-length
 mul-length c =
@@ -50,20 +54,35 @@ refused-requires-3 c κs = search needs
 
 returns-3 : tie.Need-returns-3
 returns-3 c =
-    makes-told (c .refused3 .ensures) (makes-16 (c .before .before .before .before .explore .ensures) _ (c .before .before .before .if1 .left) (c .before .before .if2 .left) (c .before .if3 .taken))
+    makes-told (c .refused3 .ensures)
+    (makes-16 (c .before .before .before .before .explore .ensures) _ (c .before .before .before .if1 .left)
+    (c .before .before .if2 .left) (c .before .if3 .taken))
 
 write-image-requires : tie.Need-write-image-requires
 write-image-requires c κs =
-    let x = c .before .before .before .before .before .before .before .before .before .before .explore .ensures in
-    let nz = c .before .before .before .before .before .before .before .before .before .if1 .left in
-    (stands-first (ready-first (c .before .before .before .before .before .before .before .before .before .before .before .before .before .before .before .before .before .before .before .before .pre) (c .before .before .before .before .before .before .before .before .before .before .before .before .before .before .before .before .before .firsts .ensures)) x nz, numbered x (c .before .before .before .before .before .before .before .before .before .before .before .before .before .before .before .before .before .before .before .before .args .out .now) nz (c .before .before .before .before .before .before .before .before .if2 .left), x .edges (omega arith))
+    let at-if2 = c .before .before .before .before .before .before .before .before in
+    let at-if1 = at-if2 .before in
+    let at-explore = at-if1 .before in
+    let at-firsts = at-explore .before .before .before .before .before .before .before in
+    let at-start = at-firsts .before .before .before in
+    let x = at-explore .explore .ensures in
+    let nz = at-if1 .if1 .left in (
+      stands-first (ready-first (at-start .pre) (at-firsts .firsts .ensures)) x nz,
+      numbered x (at-start .args .out .now) nz (at-if2 .if2 .left),
+      x .edges (omega arith),
+    )
 
 same-length : tie.Need-same-length
 same-length c = search needs
 
 returns-4 : tie.Need-returns-4
 returns-4 c =
-    makes-done (c .before .before .before .before .before .before .before .before .before .before .before .before .before .explore .ensures) _ (c .before .before .before .before .before .before .before .before .before .before .before .before .if1 .left) (c .before .before .before .before .before .before .before .before .before .before .before .if2 .left) (c .before .before .before .before .before .before .before .before .before .before .if3 .left) (c .before .before .write-image .ensures)
+    let at-if3 = c .before .before .before .before .before .before .before .before .before .before in
+    let at-if2 = at-if3 .before in
+    let at-if1 = at-if2 .before in
+    let at-explore = at-if1 .before in
+    makes-done (at-explore .explore .ensures) _ (at-if1 .if1 .left) (at-if2 .if2 .left) (at-if3 .if3 .left)
+    (c .before .before .write-image .ensures)
 
 pub compile-table-spec : {M : Type 1} → statement M
 compile-table-spec =

@@ -68,8 +68,10 @@ rest-place-target-requires : (t : ℕ) → rest-place-lts.Need-target-requires (
   target-reads.Learnt,
 ) (rest-place-at t) rest-place.Post
 rest-place-target-requires t c κs =
-    let x = c .before .before .before .before .before .before .pre .1 .0 in
-    (stands-down x (c .before .before .before .before .if1 .left) (c .before .before .before .entry .ensures .0), c .before .rest-place .ensures)
+    let x = c .before .before .before .before .before .before .pre .1 .0 in (
+      stands-down x (c .before .before .before .before .if1 .left) (c .before .before .before .entry .ensures .0),
+      c .before .rest-place .ensures,
+    )
 
 rest-place-returns-2 : (t : ℕ) → rest-place-lts.Need-returns-2 (
   entry-reads.Asked,
@@ -80,8 +82,11 @@ rest-place-returns-2 : (t : ℕ) → rest-place-lts.Need-returns-2 (
   target-reads.Learnt,
 ) (rest-place-at t) rest-place.Post
 rest-place-returns-2 t c =
-    let x = c .before .before .before .before .before .before .before .pre .1 .0 in
-    rest-down x _ (c .before .before .before .before .before .if1 .left) (c .before .before .before .before .entry .ensures .0) (c .target .ensures)
+    let at-entry = c .before .before .before .before in
+    let at-if1 = at-entry .before in
+    let at-start = at-if1 .before .before in
+    let x = at-start .pre .1 .0 in
+    rest-down x _ (at-if1 .if1 .left) (at-entry .entry .ensures .0) (c .target .ensures)
 
 pub +rest-place-spec : {M : Type 1} → statement M
 +rest-place-spec = close μ-rest-place λ t. rest-place-lts.spec (

@@ -11,11 +11,13 @@ use Rattle.compile.proofs.explore.explore.Statement.{statement}
 use Rattle.compile.proofs.explore.explore.Tie as tie
 
 abbrev Inv-loop : tie.InvT-loop
-Inv-loop table states first newest₀ earlier₀ heads₀ levels₀ fallbacks₀ places₀ edges₀ p₀ newest earlier heads levels fallbacks places edges p =
+Inv-loop table states first newest₀ earlier₀ heads₀ levels₀ fallbacks₀ places₀ edges₀ p₀ newest earlier heads
+    levels fallbacks places edges p =
     Exploring (tableBook table states) p edges newest earlier (rows heads levels fallbacks) places
 
 abbrev μ-loop : tie.MeasureT-loop
-μ-loop table states first newest₀ earlier₀ heads₀ levels₀ fallbacks₀ places₀ edges₀ p₀ newest earlier heads levels fallbacks places edges p =
+μ-loop table states first newest₀ earlier₀ heads₀ levels₀ fallbacks₀ places₀ edges₀ p₀ newest earlier heads
+    levels fallbacks places edges p =
     1024 - p
 
 loop-holds : tie.Need-loop-holds Inv-loop μ-loop
@@ -38,16 +40,22 @@ add-edges c =
 
 open-place-requires : tie.Need-open-place-requires Inv-loop μ-loop
 open-place-requires c κs =
-    let x = c .before .before .before .before .before .before .before .before .before .loop .inv in
-    (record { ready = c .before .before .before .before .before .before .before .before .before .before .before .pre .0; fit = x .fit; below = c .before .before .before .before .before .before .before .before .loop-test .taken }, x .opened-is)
+    let at-loop-test = c .before .before .before .before .before .before .before .before in
+    let at-loop = at-loop-test .before in
+    let at-start = at-loop .before .before in
+    let x = at-loop .loop .inv in
+    (record { ready = at-start .pre .0; fit = x .fit; below = at-loop-test .loop-test .taken }, x .opened-is)
 
 returns : tie.Need-returns Inv-loop μ-loop
 returns c =
-    let x = c .before .before .before .before .before .before .before .before .before .before .before .loop .inv in
+    let at-count-of = c .before .before .before .before .before .before .before in
+    let at-loop-test = at-count-of .before .before .before in
+    let at-loop = at-loop-test .before in
+    let x = at-loop .loop .inv in
     let few = x .few in
     let all = x .fit .held .few in
-    let m = c .before .before .before .before .before .before .before .count-of .ensures .small in
-    exploring-over x (c .before .before .before .before .before .before .before .before .before .before .loop-test .taken) (c .before .open-place .ensures) _ (c .if1 .taken) (omega arith)
+    let m = at-count-of .count-of .ensures .small in
+    exploring-over x (at-loop-test .loop-test .taken) (c .before .open-place .ensures) _ (c .if1 .taken) (omega arith)
 
 add-p : tie.Need-add-p Inv-loop μ-loop
 add-p c = search needs
@@ -59,8 +67,13 @@ loop-less c =
 
 loop-again : tie.Need-loop-again Inv-loop μ-loop
 loop-again c =
-    exploring-next (c .before .before .before .before .before .before .before .before .before .before .before .loop .inv) (c .before .before .before .before .before .before .before .before .before .before .loop-test .taken) (c .before .open-place .ensures)
-    (c .before .before .before .before .before .before .before .before .entry .ensures .0) (c .before .before .before .before .before .before .before .count-of .ensures .is) (c .before .before .before .before .before .before .before .count-of .ensures .small) (c .if1 .left)
+    let at-count-of = c .before .before .before .before .before .before .before in
+    let at-entry = at-count-of .before in
+    let at-loop-test = at-entry .before .before in
+    let at-loop = at-loop-test .before in
+    exploring-next (at-loop .loop .inv) (at-loop-test .loop-test .taken) (c .before .open-place .ensures)
+    (at-entry .entry .ensures .0) (at-count-of .count-of .ensures .is) (at-count-of .count-of .ensures .small)
+    (c .if1 .left)
 
 returns-2 : tie.Need-returns-2 Inv-loop μ-loop
 returns-2 c = exploring-end (c .before .loop .inv) (c .loop-test .left)

@@ -15,7 +15,8 @@ entry-requires c κs = search needs
 
 lead-rising-requires : tie.Need-lead-rising-requires
 lead-rising-requires c κs =
-    c .before .before .before .before .before .before .before .before .before .before .before .pre .0 .ready .rising _
+    let at-start = c .before .before .before .before .before .before .before .before .before .before .before in
+    at-start .pre .0 .ready .rising _
 
 enum-told : tie.Need-enum-told
 enum-told c = search needs
@@ -25,29 +26,45 @@ enum-known-found c = search needs
 
 entry-requires-2 : tie.Need-entry-requires-2
 entry-requires-2 c κs =
-    place-low (c .before .before .before .before .before .before .before .before .before .before .before .before .before .before .before .before .pre .0)
+    let at-start =
+    c .before .before .before .before .before .before .before .before .before .before .before .before .before .before .before .before
+    in
+    place-low (at-start .pre .0)
 
 add-add : tie.Need-add-add
 add-add c = search needs
 
 add-requires : tie.Need-add-requires
 add-requires c κs =
-    let s = c .before .before .before .before .before .before .before .before .before .before .before .before .before .before .before .before .before .before .before .before .before .before .before in
+    let at-entry2 = c .before .before .before .before .before .before in
+    let at-found = at-entry2 .before .before .before in
+    let at-lead-rising = at-found .before .before in
+    let at-rest-place = at-lead-rising .before .before .before in
+    let s = at-rest-place .before .before .before .before .before .before .before .before .before in
     let x = s .pre .0 in
-    let small = led-small (x .ready) _ _ _ (c .before .before .before .before .before .before .before .before .before .before .before .lead-rising .ensures) (c .before .before .before .before .before .before .before .before .before .found .given .1) in
-    let r = c .before .before .before .before .before .before .before .before .before .before .before .before .before .before .rest-place .ensures in
-    (x .fit, small, r .place .below, level-low x (c .before .before .before .before .before .before .entry2 .ensures .0), seen-rest x _ _ r (s .pre .1))
+    let small = led-small (x .ready) _ _ _ (at-lead-rising .lead-rising .ensures) (at-found .found .given .1) in
+    let r = at-rest-place .rest-place .ensures in
+    (x .fit, small, r .place .below, level-low x (at-entry2 .entry2 .ensures .0), seen-rest x _ _ r (s .pre .1))
 
 returns : tie.Need-returns
 returns c =
-    let s = c .before .before .before .before .before .before .before .before .before .before .before .before .before .before in
-    met-none (s .pre .0) _ _ _ (c .before .before .before .entry .ensures .0) (c .before .before .lead-rising .ensures) (c .before .before .before .before .before .rest-place .ensures) (s .pre .1) (c .enum-told .given .1)
+    let at-entry = c .before .before .before in
+    let at-rest-place = at-entry .before .before in
+    let s = at-rest-place .before .before .before .before .before .before .before .before .before in
+    met-none (s .pre .0) _ _ _ (at-entry .entry .ensures .0) (c .before .before .lead-rising .ensures)
+    (at-rest-place .rest-place .ensures) (s .pre .1) (c .enum-told .given .1)
 
 returns-2 : tie.Need-returns-2
 returns-2 c =
-    let s = c .before .before .before .before .before .before .before .before .before .before .before .before .before .before .before .before .before .before .before .before .before .before .before .before in
-    met-some (s .pre .0) _ _ _ (c .before .before .before .before .before .before .before .before .before .before .before .before .before .entry .ensures .0) (c .before .before .before .before .before .before .before .before .before .before .before .before .lead-rising .ensures) (c .before .before .before .before .before .before .before .before .before .before .before .before .before .before .before .rest-place .ensures) (s .pre .1)
-    (c .before .before .before .before .before .before .before .before .before .before .found .given .1) (c .before .before .before .before .before .before .before .entry2 .ensures .0) (c .add .ensures)
+    let at-entry2 = c .before .before .before .before .before .before .before in
+    let at-found = at-entry2 .before .before .before in
+    let at-lead-rising = at-found .before .before in
+    let at-entry = at-lead-rising .before in
+    let at-rest-place = at-entry .before .before in
+    let s = at-rest-place .before .before .before .before .before .before .before .before .before in
+    met-some (s .pre .0) _ _ _ (at-entry .entry .ensures .0) (at-lead-rising .lead-rising .ensures)
+    (at-rest-place .rest-place .ensures) (s .pre .1)
+    (at-found .found .given .1) (at-entry2 .entry2 .ensures .0) (c .add .ensures)
 
 pub meet-edge-spec : {M : Type 1} → statement M
 meet-edge-spec =

@@ -15,7 +15,8 @@ use Rattle.compile.proofs.explore.open_place.Statement.{statement}
 use Rattle.compile.proofs.explore.open_place.Tie as tie
 
 abbrev Inv-loop : tie.InvT-loop
-Inv-loop table states first newest₀ earlier₀ heads₀ levels₀ fallbacks₀ n p head left₀ j₀ n₀ newest earlier heads levels fallbacks left j n' =
+Inv-loop table states first newest₀ earlier₀ heads₀ levels₀ fallbacks₀ n p head left₀ j₀ n₀ newest earlier heads
+    levels fallbacks left j n' =
     let w₀ = rows heads₀ levels₀ fallbacks₀ in
     let B = tableBook table states in
     (j + left ≤ 131072)
@@ -23,7 +24,8 @@ Inv-loop table states first newest₀ earlier₀ heads₀ levels₀ fallbacks₀
     newest earlier (rows heads levels fallbacks) n'
 
 abbrev μ-loop : tie.MeasureT-loop
-μ-loop table states first newest₀ earlier₀ heads₀ levels₀ fallbacks₀ n p head left₀ j₀ n₀ newest earlier heads levels fallbacks left j n' =
+μ-loop table states first newest₀ earlier₀ heads₀ levels₀ fallbacks₀ n p head left₀ j₀ n₀ newest earlier heads
+    levels fallbacks left j n' =
     left
 
 entry-requires : tie.Need-entry-requires Inv-loop μ-loop
@@ -51,12 +53,19 @@ edge-at-requires c κs = search needs
 
 meet-edge-requires : tie.Need-meet-edge-requires Inv-loop μ-loop
 meet-edge-requires c κs =
-    let m = c .before .before .before .before .before .before .before .loop .inv .1 in
-    (record { ready = c .before .before .before .before .before .before .before .before .before .before .before .before .before .pre .0 .ready; fit = m .fit; below = m .below }, meeting-rest m _)
+    let at-loop = c .before .before .before .before .before .before .before in
+    let at-start = at-loop .before .before .before .before .before .before in
+    let m = at-loop .loop .inv .1 in
+    (record { ready = at-start .pre .0 .ready; fit = m .fit; below = m .below }, meeting-rest m _)
 
 returns : tie.Need-returns Inv-loop μ-loop
 returns c =
-    meeting-over (c .before .before .before .before .before .before .before .before .before .loop .inv .1) (next-event _ _ _ _ (c .before .before .before .before .before .before .before .before .loop-test .taken) (c .before .before .before .before .before .before .before .edge-at .ensures .is)) (c .before .meet-edge .ensures) (c .if1 .taken)
+    let at-edge-at = c .before .before .before .before .before .before .before in
+    let at-loop-test = at-edge-at .before in
+    let at-loop = at-loop-test .before in
+    meeting-over (at-loop .loop .inv .1)
+    (next-event _ _ _ _ (at-loop-test .loop-test .taken) (at-edge-at .edge-at .ensures .is))
+    (c .before .meet-edge .ensures) (c .if1 .taken)
 
 sub-left : tie.Need-sub-left Inv-loop μ-loop
 sub-left c = search needs
@@ -68,10 +77,15 @@ loop-less : tie.Need-loop-less Inv-loop μ-loop
 loop-less c = search needs
 
 loop-again : tie.Need-loop-again Inv-loop μ-loop
-loop-again c = (
-  omega arith,
-  meeting-next (c .before .before .before .before .before .before .before .before .before .loop .inv .1) (next-event _ _ _ _ (c .before .before .before .before .before .before .before .before .loop-test .taken) (c .before .before .before .before .before .before .before .edge-at .ensures .is)) (c .before .meet-edge .ensures) (c .if1 .left),
-)
+loop-again c =
+    let at-edge-at = c .before .before .before .before .before .before .before in
+    let at-loop-test = at-edge-at .before in
+    let at-loop = at-loop-test .before in (
+      omega arith,
+      meeting-next (at-loop .loop .inv .1)
+          (next-event _ _ _ _ (at-loop-test .loop-test .taken) (at-edge-at .edge-at .ensures .is))
+          (c .before .meet-edge .ensures) (c .if1 .left),
+    )
 
 returns-2 : tie.Need-returns-2 Inv-loop μ-loop
 returns-2 c =

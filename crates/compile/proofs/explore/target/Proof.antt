@@ -24,18 +24,28 @@ add-settle c = search needs
 
 settle-requires : tie.Need-settle-requires
 settle-requires c κs =
-    let s = c .before .before .before .before .before .before .before .before in
-    (s .pre .0 .fit, led-small (s .pre .0 .ready) _ _ _ (c .before .before .before .before .before .lead-rising .ensures) (c .before .before .before .found .given .1), s .pre .1 .place .below)
+    let at-found = c .before .before .before in
+    let at-lead-rising = at-found .before .before in
+    let s = at-lead-rising .before .before .before in (
+      s .pre .0 .fit,
+      led-small (s .pre .0 .ready) _ _ _ (at-lead-rising .lead-rising .ensures) (at-found .found .given .1),
+      s .pre .1 .place .below,
+    )
 
 returns : tie.Need-returns
 returns c =
     let s = c .before .before .before .before .before in
-    to-none (s .pre .0) _ _ _ (c .before .before .before .entry .ensures .0) (c .before .before .lead-rising .ensures) (c .enum-told .given .1) (s .pre .1)
+    to-none (s .pre .0) _ _ _ (c .before .before .before .entry .ensures .0) (c .before .before .lead-rising .ensures)
+    (c .enum-told .given .1) (s .pre .1)
 
 returns-2 : tie.Need-returns-2
 returns-2 c =
-    let s = c .before .before .before .before .before .before .before .before .before in
-    to-some (s .pre .0) _ _ _ (c .before .before .before .before .before .before .before .entry .ensures .0) (c .before .before .before .before .before .before .lead-rising .ensures) (c .before .before .before .before .found .given .1) (c .before .before .entry2 .ensures .0) (s .pre .1)
+    let at-found = c .before .before .before .before in
+    let at-lead-rising = at-found .before .before in
+    let at-entry = at-lead-rising .before in
+    let s = at-entry .before .before in
+    to-some (s .pre .0) _ _ _ (at-entry .entry .ensures .0) (at-lead-rising .lead-rising .ensures)
+    (at-found .found .given .1) (c .before .before .entry2 .ensures .0) (s .pre .1)
     (c .settle .ensures)
 
 pub target-spec : {M : Type 1} → statement M

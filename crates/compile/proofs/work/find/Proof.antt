@@ -2,10 +2,9 @@
 -- Assumes nothing.
 use native.Mathlib.Omega.{arith}
 use borrow.Author.Needs.{needs}
-use Rattle.meaning.specs.Chain.{head, level, rest}
-use Rattle.image.proofs.Accepted.{levels}
 use Rattle.compile.specs.Explore.{whole}
 use Rattle.compile.specs.Work.{rows}
+use Rattle.compile.proofs.Rows.{lower}
 use Rattle.compile.proofs.Seek.{Seek, seek-from, seek-on, seek-found, seek-none}
 use Rattle.compile.proofs.work.find.Statement.{statement}
 use Rattle.compile.proofs.work.find.Tie as tie
@@ -35,7 +34,8 @@ same-chain-requires c κs =
 returns : tie.Need-returns Inv-loop μ-loop
 returns c =
     let s = c .before .before .before .before .before in
-    seek-found (s .pre .0) (c .before .before .loop-test .taken) (c .before .before .before .loop .inv) (c .before .same-chain .ensures) (c .if1 .taken)
+    seek-found (s .pre .0) (c .before .before .loop-test .taken) (c .before .before .before .loop .inv)
+    (c .before .same-chain .ensures) (c .if1 .taken)
 
 entry-requires : tie.Need-entry-requires Inv-loop μ-loop
 entry-requires c κs =
@@ -45,12 +45,15 @@ entry-requires c κs =
 
 loop-less : tie.Need-loop-less Inv-loop μ-loop
 loop-less c =
-    omega (arith, c .before .before .before .before .before .before .pre .0 .earlier-down (c .before .before .before .before .loop .p) (omega arith))
+    lower (c .before .before .before .before .before .before .args .earlier .now)
+    (c .before .before .before .before .before .before .pre .0 .earlier-down)
+    (c .before .before .before .loop-test .taken) (c .entry .ensures .0)
 
 loop-again : tie.Need-loop-again Inv-loop μ-loop
 loop-again c =
     let s = c .before .before .before .before .before .before in
-    seek-on (s .pre .0) (c .entry .ensures .0) (c .before .before .before .loop-test .taken) (c .before .before .before .before .loop .inv)
+    seek-on (s .pre .0) (c .entry .ensures .0) (c .before .before .before .loop-test .taken)
+    (c .before .before .before .before .loop .inv)
     (c .before .before .same-chain .ensures) (c .before .if1 .left)
 
 returns-2 : tie.Need-returns-2 Inv-loop μ-loop

@@ -1,11 +1,10 @@
 -- `same_chain` meets its contract: what is left to compare decides; the first of the two places goes down at each turn.
 -- Assumes nothing.
-use native.Mathlib.Omega.{arith}
 use borrow.Author.Needs.{needs}
-use Rattle.meaning.specs.Chain.{head, level, rest}
-use Rattle.image.proofs.Accepted.{levels}
 use Rattle.compile.specs.Work.{rows}
-use Rattle.compile.proofs.Same.{Comparing, head-differs, level-differs, comparing-start, first-longer, heads-differ, levels-differ, comparing-next, comparing-end}
+use Rattle.compile.proofs.Rows.{lower}
+use Rattle.compile.proofs.Same.{Comparing, head-differs, level-differs, comparing-start, first-longer}
+use Rattle.compile.proofs.Same.{heads-differ, levels-differ, comparing-next, comparing-end}
 use Rattle.compile.proofs.work.same_chain.Statement.{statement}
 use Rattle.compile.proofs.work.same_chain.Tie as tie
 
@@ -38,12 +37,14 @@ entry-requires-3 c κs = search needs
 loop-holds : tie.Need-loop-holds Inv-loop μ-loop
 loop-holds c =
     let s = c .before .before .before .before .before in
-    comparing-start _ (s .pre .0) _ _ _ _ (s .pre .1) (c .before .before .before .before .entry .ensures .0) (c .before .before .before .if1 .left) (c .before .before .entry2 .ensures .0) (c .before .if2 .left)
+    comparing-start _ (s .pre .0) _ _ _ _ (s .pre .1) (c .before .before .before .before .entry .ensures .0)
+    (c .before .before .before .if1 .left) (c .before .before .entry2 .ensures .0) (c .before .if2 .left)
     (c .entry3 .ensures .0) (s .pre .2) (s .pre .3)
 
 returns-3 : tie.Need-returns-3 Inv-loop μ-loop
 returns-3 c =
-    first-longer _ (c .before .before .before .before .before .before .before .before .pre .0) (c .before .before .loop .inv) (c .before .loop-test .taken) (c .if3 .taken)
+    let at-start = c .before .before .before .before .before .before .before .before in
+    first-longer _ (at-start .pre .0) (c .before .before .loop .inv) (c .before .loop-test .taken) (c .if3 .taken)
 
 entry-requires-4 : tie.Need-entry-requires-4 Inv-loop μ-loop
 entry-requires-4 c κs = search needs
@@ -53,7 +54,11 @@ entry-requires-5 c κs = search needs
 
 returns-4 : tie.Need-returns-4 Inv-loop μ-loop
 returns-4 c =
-    heads-differ _ (c .before .before .before .before .before .before .before .before .before .before .before .pre .0) (c .before .before .before .before .before .loop .inv) (c .before .before .before .before .loop-test .taken) (c .before .before .before .if3 .left)
+    let at-if3 = c .before .before .before in
+    let at-loop-test = at-if3 .before in
+    let at-loop = at-loop-test .before in
+    let at-start = at-loop .before .before .before .before .before .before in
+    heads-differ _ (at-start .pre .0) (at-loop .loop .inv) (at-loop-test .loop-test .taken) (at-if3 .if3 .left)
     (c .before .before .entry4 .ensures .0) (c .before .entry5 .ensures .0) (c .if4 .taken)
 
 entry-requires-6 : tie.Need-entry-requires-6 Inv-loop μ-loop
@@ -64,7 +69,11 @@ entry-requires-7 c κs = search needs
 
 returns-5 : tie.Need-returns-5 Inv-loop μ-loop
 returns-5 c =
-    levels-differ _ (c .before .before .before .before .before .before .before .before .before .before .before .before .before .before .pre .0) (c .before .before .before .before .before .before .before .before .loop .inv) (c .before .before .before .before .before .before .before .loop-test .taken) (c .before .before .before .before .before .before .if3 .left)
+    let at-if3 = c .before .before .before .before .before .before in
+    let at-loop-test = at-if3 .before in
+    let at-loop = at-loop-test .before in
+    let at-start = at-loop .before .before .before .before .before .before in
+    levels-differ _ (at-start .pre .0) (at-loop .loop .inv) (at-loop-test .loop-test .taken) (at-if3 .if3 .left)
     (c .before .before .entry6 .ensures .0) (c .before .entry7 .ensures .0) (c .if5 .taken)
 
 entry-requires-8 : tie.Need-entry-requires-8 Inv-loop μ-loop
@@ -75,18 +84,31 @@ entry-requires-9 c κs = search needs
 
 loop-less : tie.Need-loop-less Inv-loop μ-loop
 loop-less c =
-    omega (arith, c .before .before .before .before .before .before .before .before .before .before .before .before .before .before .before .before .pre .0 (c .before .before .before .before .before .before .before .before .before .before .loop .a) (omega arith))
+    let at-loop-test = c .before .before .before .before .before .before .before .before .before in
+    let at-start = at-loop-test .before .before .before .before .before .before .before in
+    lower (at-start .args .fallbacks .now) (at-start .pre .0) (at-loop-test .loop-test .taken)
+    (c .before .entry8 .ensures .0)
 
 loop-again : tie.Need-loop-again Inv-loop μ-loop
 loop-again c =
-    comparing-next _ (c .before .before .before .before .before .before .before .before .before .before .before .before .before .before .before .before .pre .0) (c .before .before .before .before .before .before .before .before .before .before .loop .inv) (c .before .before .before .before .before .before .before .before .before .loop-test .taken) (c .before .before .before .before .before .before .before .before .if3 .left)
-    (c .before .before .before .before .before .before .before .entry4 .ensures .0) (c .before .before .before .before .before .before .entry5 .ensures .0) (c .before .before .before .before .before .if4 .left)
-    (c .before .before .before .before .entry6 .ensures .0) (c .before .before .before .entry7 .ensures .0) (c .before .before .if5 .left)
+    let at-entry7 = c .before .before .before in
+    let at-entry6 = at-entry7 .before in
+    let at-if4 = at-entry6 .before in
+    let at-entry5 = at-if4 .before in
+    let at-entry4 = at-entry5 .before in
+    let at-if3 = at-entry4 .before in
+    let at-loop-test = at-if3 .before in
+    let at-loop = at-loop-test .before in
+    let at-start = at-loop .before .before .before .before .before .before in
+    comparing-next _ (at-start .pre .0) (at-loop .loop .inv) (at-loop-test .loop-test .taken) (at-if3 .if3 .left)
+    (at-entry4 .entry4 .ensures .0) (at-entry5 .entry5 .ensures .0) (at-if4 .if4 .left)
+    (at-entry6 .entry6 .ensures .0) (at-entry7 .entry7 .ensures .0) (c .before .before .if5 .left)
     (c .before .entry8 .ensures .0) (c .entry9 .ensures .0)
 
 returns-6 : tie.Need-returns-6 Inv-loop μ-loop
 returns-6 c =
-    comparing-end _ (c .before .before .before .before .before .before .before .pre .0) (c .before .loop .inv) (c .loop-test .left)
+    let at-start = c .before .before .before .before .before .before .before in
+    comparing-end _ (at-start .pre .0) (c .before .loop .inv) (c .loop-test .left)
 
 pub same-chain-spec : {M : Type 1} → statement M
 same-chain-spec =

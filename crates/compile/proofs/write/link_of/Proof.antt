@@ -4,9 +4,9 @@ use Prim.Native.Nat.{_<_}
 use native.Mathlib.Omega.{arith}
 use borrow.Author.Needs.{needs}
 use Rattle.book.specs.Model.{tableBook}
-use Rattle.image.proofs.Accepted.{levels}
 use Rattle.compile.specs.Work.{rows}
 use Rattle.compile.proofs.Records.{Linking, link-end, link-here, link-on}
+use Rattle.compile.proofs.Rows.{lower}
 use Rattle.compile.proofs.write.link_of.Statement.{statement}
 use Rattle.compile.proofs.write.link_of.Tie as tie
 
@@ -28,20 +28,31 @@ mark-of-requires c κs = search needs
 
 returns : tie.Need-returns Inv-loop μ-loop
 returns c =
-    link-here (c .before .before .before .before .before .before .pre .0) (c .before .before .before .before .loop .inv .1) (c .before .before .before .loop-test .taken) (c .before .before .entry .ensures .0) (c .before .mark-of .ensures .is) (c .if1 .taken)
+    link-here (c .before .before .before .before .before .before .pre .0)
+    (c .before .before .before .before .loop .inv .1) (c .before .before .before .loop-test .taken)
+    (c .before .before .entry .ensures .0) (c .before .mark-of .ensures .is) (c .if1 .taken)
 
 entry-requires-2 : tie.Need-entry-requires-2 Inv-loop μ-loop
 entry-requires-2 c κs = search needs
 
 loop-less : tie.Need-loop-less Inv-loop μ-loop
 loop-less c =
-    omega (arith, c .before .before .before .before .before .before .before .pre .0 (c .before .before .before .before .before .loop .p) (omega arith))
+    let at-loop-test = c .before .before .before .before in
+    let at-start = at-loop-test .before .before .before in
+    lower (at-start .args .fallbacks .now) (at-start .pre .0) (at-loop-test .loop-test .taken) (c .entry2 .ensures .0)
 
 loop-again : tie.Need-loop-again Inv-loop μ-loop
 loop-again c =
-    let d = c .before .before .before .before .before .before .before .pre .0 (c .before .before .before .before .before .loop .p) (omega arith) in (
+    let at-entry = c .before .before .before in
+    let at-loop-test = at-entry .before in
+    let at-loop = at-loop-test .before in
+    let at-start = at-loop .before .before in
+    let d =
+    lower (at-start .args .fallbacks .now) (at-start .pre .0) (at-loop-test .loop-test .taken) (c .entry2 .ensures .0)
+    in (
       omega arith,
-      link-on (c .before .before .before .before .before .before .before .pre .0) (c .before .before .before .before .before .loop .inv .1) (c .before .before .before .before .loop-test .taken) (c .before .before .before .entry .ensures .0) (c .before .before .mark-of .ensures .is) (c .before .if1 .left)
+      link-on (at-start .pre .0) (at-loop .loop .inv .1) (at-loop-test .loop-test .taken) (at-entry .entry .ensures .0)
+          (c .before .before .mark-of .ensures .is) (c .before .if1 .left)
           (c .entry2 .ensures .0),
     )
 

@@ -27,8 +27,12 @@ same-length c = search needs
 
 returns : tie.Need-returns
 returns c =
-    let x = c .before .before .before .before .before .before .before .before .before .before .before .before .before .args in
-    edge-sets (x .out .now) (x .at) (x .event) (x .target) (c .before .before .before .before .before .before .before .before .before .before .put-byte .ensures) (c .before .before .before .before .before .before .put-byte2 .ensures) (c .before .before .put16 .ensures)
+    let at-put-byte2 = c .before .before .before .before .before .before in
+    let at-put-byte = at-put-byte2 .before .before .before .before in
+    let at-start = at-put-byte .before .before .before in
+    let x = at-start .args in
+    edge-sets (x .out .now) (x .at) (x .event) (x .target) (at-put-byte .put-byte .ensures)
+    (at-put-byte2 .put-byte2 .ensures) (c .before .before .put16 .ensures)
 
 pub write-edge-spec : {M : Type 1} → statement M
 write-edge-spec =

@@ -2,7 +2,6 @@
 use Prim.Native.Nat.{_-_}
 use borrow.Author.Needs.{needs}
 use Rattle.book.specs.Model.{tableBook}
-use Rattle.image.proofs.Accepted.{levels}
 use Rattle.compile.specs.Work.{rows}
 use Rattle.compile.proofs.Records.{Edging, wrote-length, edging-start, edging-end, edging-room, edging-next}
 use Rattle.compile.proofs.write.write_edges.Statement.{statement}
@@ -35,7 +34,11 @@ loop-less c = search needs
 
 loop-again : tie.Need-loop-again Inv-loop μ-loop
 loop-again c =
-    edging-next (c .before .before .before .before .before .before .before .before .pre .1) (c .before .before .before .before .before .loop .inv) (c .before .before .before .before .loop-test .taken) (c .before .before .write-own .ensures)
+    let at-loop-test = c .before .before .before .before in
+    let at-loop = at-loop-test .before in
+    let at-start = at-loop .before .before .before in
+    edging-next (at-start .pre .1) (at-loop .loop .inv) (at-loop-test .loop-test .taken)
+    (c .before .before .write-own .ensures)
 
 same-length : tie.Need-same-length Inv-loop μ-loop
 same-length c = wrote-length (c .before .loop .inv .so-far)

@@ -9,19 +9,28 @@ write-places-requires c κs = search needs
 
 write-edges-requires : tie.Need-write-edges-requires
 write-edges-requires c κs =
-    (c .before .before .before .before .before .before .before .pre .0, c .before .before .before .before .before .before .before .pre .1, places-end (c .before .before .before .before .before .before .before .pre .1) (c .before .before .before .write-places .ensures))
+    let at-write-places = c .before .before .before in
+    let at-start = at-write-places .before .before .before .before in
+    (at-start .pre .0, at-start .pre .1, places-end (at-start .pre .1) (at-write-places .write-places .ensures))
 
 write-trailer-requires : tie.Need-write-trailer-requires
 write-trailer-requires c κs =
-    let s = c .before .before .before .before .before .before .before .before .before .before .before in
-    edges-end (s .pre .1) (places-end (s .pre .1) (c .before .before .before .before .before .before .before .write-places .ensures)) (s .pre .2) (c .before .before .before .write-edges .ensures)
+    let at-write-edges = c .before .before .before in
+    let at-write-places = at-write-edges .before .before .before .before in
+    let s = at-write-places .before .before .before .before in
+    edges-end (s .pre .1) (places-end (s .pre .1) (at-write-places .write-places .ensures)) (s .pre .2)
+    (at-write-edges .write-edges .ensures)
 
 same-length : tie.Need-same-length
 same-length c = search needs
 
 returns : tie.Need-returns
 returns c =
-    image-wrote (c .before .before .before .before .before .before .before .before .before .before .before .before .before .before .pre .1) (c .before .before .before .before .before .before .before .before .before .before .before .before .before .before .pre .2) (c .before .before .before .before .before .before .before .before .before .before .write-places .ensures) (c .before .before .before .before .before .before .write-edges .ensures) (c .before .before .write-trailer .ensures)
+    let at-write-edges = c .before .before .before .before .before .before in
+    let at-write-places = at-write-edges .before .before .before .before in
+    let at-start = at-write-places .before .before .before .before in
+    image-wrote (at-start .pre .1) (at-start .pre .2) (at-write-places .write-places .ensures)
+    (at-write-edges .write-edges .ensures) (c .before .before .write-trailer .ensures)
 
 pub write-image-spec : {M : Type 1} → statement M
 write-image-spec =

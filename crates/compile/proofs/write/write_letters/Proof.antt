@@ -24,8 +24,11 @@ same-length c = search needs
 
 returns : tie.Need-returns
 returns c =
-    let x = c .before .before .before .before .before .before .before .before .before .args in
-    letters-sets (x .out .now) (x .at) (x .t3) (c .before .before .before .before .before .before .before .before .before .pre .1) (c .before .before .before .before .before .before .put-byte .ensures) (c .before .before .put-byte2 .ensures)
+    let at-put-byte = c .before .before .before .before .before .before in
+    let at-start = at-put-byte .before .before .before in
+    let x = at-start .args in
+    letters-sets (x .out .now) (x .at) (x .t3) (at-start .pre .1) (at-put-byte .put-byte .ensures)
+    (c .before .before .put-byte2 .ensures)
 
 pub write-letters-spec : {M : Type 1} → statement M
 write-letters-spec =

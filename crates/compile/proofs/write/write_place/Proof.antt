@@ -57,15 +57,23 @@ same-length c = search needs
 
 returns : tie.Need-returns
 returns c =
-    let x = c .before .before .before .before .before .before .before .before .before .before .before .before .before .before .before .before .before .before .before .before .before .before .before .before .before .before .before .before .before .before .before .before .before .args in
+    let at-put-byte = c .before .before .before .before .before .before in
+    let at-put166 = at-put-byte .before .before .before .before in
+    let at-put165 = at-put166 .before .before .before .before in
+    let at-put164 = at-put165 .before .before .before .before in
+    let at-put163 = at-put164 .before .before .before .before in
+    let at-put162 = at-put163 .before .before .before .before in
+    let at-put16 = at-put162 .before .before .before .before in
+    let at-start = at-put16 .before .before .before in
+    let x = at-start .args in
     place-sets (x .out .now) (x .at) (x .first) (x .count) (x .fallback) (x .level) (x .head) (x .link) (x .mark)
-    (c .before .before .before .before .before .before .before .before .before .before .before .before .before .before .before .before .before .before .before .before .before .before .before .before .before .before .before .before .before .before .put16 .ensures)
-    (c .before .before .before .before .before .before .before .before .before .before .before .before .before .before .before .before .before .before .before .before .before .before .before .before .before .before .put162 .ensures)
-    (c .before .before .before .before .before .before .before .before .before .before .before .before .before .before .before .before .before .before .before .before .before .before .put163 .ensures)
-    (c .before .before .before .before .before .before .before .before .before .before .before .before .before .before .before .before .before .before .put164 .ensures)
-    (c .before .before .before .before .before .before .before .before .before .before .before .before .before .before .put165 .ensures)
-    (c .before .before .before .before .before .before .before .before .before .before .put166 .ensures)
-    (c .before .before .before .before .before .before .put-byte .ensures)
+    (at-put16 .put16 .ensures)
+    (at-put162 .put162 .ensures)
+    (at-put163 .put163 .ensures)
+    (at-put164 .put164 .ensures)
+    (at-put165 .put165 .ensures)
+    (at-put166 .put166 .ensures)
+    (at-put-byte .put-byte .ensures)
     (c .before .before .put-byte2 .ensures)
 
 pub write-place-spec : {M : Type 1} → statement M

@@ -3,7 +3,6 @@ use Prim.Native.Nat.{_-_}
 use native.Mathlib.Omega.{arith}
 use borrow.Author.Needs.{needs}
 use Rattle.book.specs.Model.{tableBook}
-use Rattle.image.proofs.Accepted.{levels}
 use Rattle.compile.specs.Work.{rows}
 use Rattle.compile.proofs.Records.{Placing, placing-length, placing-start, placing-end, placing-next, placing-few}
 use Rattle.compile.proofs.write.write_places.Statement.{statement}
@@ -41,22 +40,30 @@ entry-requires-3 c κs = search needs
 
 write-place-requires : tie.Need-write-place-requires Inv-loop μ-loop
 write-place-requires c κs =
-    let few = c .before .before .before .before .before .before .before .before .before .before .before .pre .held .few in
-    let ends = c .before .before .before .before .before .before .before .before .loop .inv .ends in
-    let small = c .before .before .before .mark-of .ensures .small in
+    let at-mark-of = c .before .before .before in
+    let at-loop = at-mark-of .before .before .before .before .before in
+    let at-start = at-loop .before .before .before in
+    let few = at-start .pre .held .few in
+    let ends = at-loop .loop .inv .ends in
+    let small = at-mark-of .mark-of .ensures .small in
     (omega arith, omega arith)
 
 add-edges : tie.Need-add-edges Inv-loop μ-loop
 add-edges c =
-    let all = c .before .before .before .before .before .before .before .before .before .before .before .before .before .before .pre .few-edges in
-    let few = c .before .before .before .before .before .before .before .before .count-of .ensures .small in
-    let sum = placing-few (c .before .before .before .before .before .before .before .before .before .before .before .before .before .before .pre) (c .before .before .before .before .before .before .before .before .before .before .before .loop .inv) in
+    let at-count-of = c .before .before .before .before .before .before .before .before in
+    let at-loop = at-count-of .before .before .before in
+    let at-start = at-loop .before .before .before in
+    let all = at-start .pre .few-edges in
+    let few = at-count-of .count-of .ensures .small in
+    let sum = placing-few (at-start .pre) (at-loop .loop .inv) in
     omega arith
 
 add-at : tie.Need-add-at Inv-loop μ-loop
 add-at c =
-    let few = c .before .before .before .before .before .before .before .before .before .before .before .before .before .before .pre .held .few in
-    let ends = c .before .before .before .before .before .before .before .before .before .before .before .loop .inv .ends in
+    let at-loop = c .before .before .before .before .before .before .before .before .before .before .before in
+    let at-start = at-loop .before .before .before in
+    let few = at-start .pre .held .few in
+    let ends = at-loop .loop .inv .ends in
     omega arith
 
 add-p : tie.Need-add-p Inv-loop μ-loop
@@ -67,8 +74,19 @@ loop-less c = search needs
 
 loop-again : tie.Need-loop-again Inv-loop μ-loop
 loop-again c =
-    placing-next (c .before .before .before .before .before .before .before .before .before .before .before .before .before .before .pre) (c .before .before .before .before .before .before .before .before .before .before .before .loop .inv) (c .before .before .before .before .before .before .before .before .before .before .loop-test .taken) (c .before .before .before .before .before .before .before .before .before .entry .ensures .0) (c .before .before .before .before .before .before .before .before .count-of .ensures .is)
-    (c .before .before .before .before .entry2 .ensures .0) (c .before .before .before .entry3 .ensures .0) (c .before .before .before .before .before .before .before .link-of .ensures) (c .before .before .before .before .before .before .mark-of .ensures .is) (c .before .before .write-place .ensures)
+    let at-entry3 = c .before .before .before in
+    let at-entry2 = at-entry3 .before in
+    let at-mark-of = at-entry2 .before .before in
+    let at-link-of = at-mark-of .before in
+    let at-count-of = at-link-of .before in
+    let at-entry = at-count-of .before in
+    let at-loop-test = at-entry .before in
+    let at-loop = at-loop-test .before in
+    let at-start = at-loop .before .before .before in
+    placing-next (at-start .pre) (at-loop .loop .inv) (at-loop-test .loop-test .taken) (at-entry .entry .ensures .0)
+    (at-count-of .count-of .ensures .is)
+    (at-entry2 .entry2 .ensures .0) (at-entry3 .entry3 .ensures .0) (at-link-of .link-of .ensures)
+    (at-mark-of .mark-of .ensures .is) (c .before .before .write-place .ensures)
 
 same-length : tie.Need-same-length Inv-loop μ-loop
 same-length c = placing-length (c .before .loop .inv)

@@ -43,14 +43,19 @@ same-length c = search needs
 
 returns : tie.Need-returns
 returns c =
-    let x = c .before .before .before .before .before .before .before .before .before .before .before .before .before .before .before .before .before .before .before .before .before .args in
+    let at-put163 = c .before .before .before .before .before .before in
+    let at-put162 = at-put163 .before .before .before .before in
+    let at-put16 = at-put162 .before .before .before .before in
+    let at-put32 = at-put16 .before .before .before .before in
+    let at-start = at-put32 .before .before .before in
+    let x = at-start .args in
     let e : x .at + 12 ≡ 14 * x .places + 4 * x .edges + 12 = omega arith in
     rw (← e)
     (trailer-sets (x .out .now) (x .at) (x .at + 12) (x .places) (x .edges) 1 letters
-    (c .before .before .before .before .before .before .before .before .before .before .before .before .before .before .before .before .before .before .put32 .ensures)
-    (c .before .before .before .before .before .before .before .before .before .before .before .before .before .before .put16 .ensures)
-    (c .before .before .before .before .before .before .before .before .before .before .put162 .ensures)
-    (c .before .before .before .before .before .before .put163 .ensures)
+    (at-put32 .put32 .ensures)
+    (at-put16 .put16 .ensures)
+    (at-put162 .put162 .ensures)
+    (at-put163 .put163 .ensures)
     (c .before .before .write-letters .ensures))
 
 pub write-trailer-spec : {M : Type 1} → statement M
