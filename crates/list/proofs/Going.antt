@@ -5,25 +5,25 @@
 --   going-start, going-on, going-end    at the first event; after a part, which took at least one; after the last
 -- Assumes nothing.
 use mathlib.Core.Path.{_≡_, refl, sym, ap, _∙_, subst}
-use mathlib.Core.List.{List, [], _∷_}
-use Prim.Native.Nat.{ℕ, suc, _+_, _-_, _/_, _≤_, _<_}
+use mathlib.Core.List.{List, []}
+use Prim.Native.Nat.{ℕ, suc, _+_, _-_, _≤_, _<_}
 use native.Mathlib.Omega.{arith}
 use lib.ListN.{length, drop, getD, length-drop}
 use lib.Seq.{drop-length, drop-cons, drop-drop}
 use lib.Dec.{leb, ltb, lit≤}
 use borrow.Author.Tests.{lt-leb, le-ltb}
-use Rattle.meaning.specs.Answer.{Answer, accepted, refused, judged}
+use Rattle.meaning.specs.Answer.{Answer, accepted, refused}
 use Rattle.meaning.specs.Questions.{Image, Levels}
 use Rattle.meaning.specs.Walk.{Stand, walk}
 use Rattle.meaning.specs.Records.{Outcome, run}
 use Rattle.meaning.proofs.Run.{run-taken, run-below, run-left}
 use Rattle.image.specs.Rules.{checkImage}
 use Rattle.image.specs.Questions.{questions}
-use Rattle.image.specs.Calls.{placesIn, runRules, runTold, runAnswer}
+use Rattle.image.specs.Calls.{placesIn, runTold, runAnswer}
 use Rattle.image.proofs.Accepted.{facts, accepted-levels}
 use Rattle.image.proofs.Judged.{first-accepted}
 use Rattle.image.proofs.Laws.{accepted-steps, accepted-moves}
-use Rattle.list.specs.Part.{noRecords, partAnswer, Parted, stepsOver, takenIn, placeIn, stepsIn}
+use Rattle.list.specs.Part.{partAnswer, Parted, stepsOver, takenIn, placeIn, stepsIn}
 use Rattle.list.specs.declared.Part.{Part}
 use Rattle.list.proofs.Parts.{accepted-zeros, part-room, outcomeAt}
 

@@ -4,7 +4,7 @@
 --   part-done, part-refused     what `next_part` answers and leaves
 -- Assumes nothing.
 use mathlib.Core.Path.{_≡_, refl, sym, ap, _∙_}
-use mathlib.Core.List.{List, []}
+use mathlib.Core.List.{List}
 use Prim.Native.Nat.{ℕ, _+_, _*_, _-_, _/_, _≤_, _<_}
 use native.Mathlib.Omega.{arith}
 use lib.ListN.{length, take, drop, replicate, length-drop, length-replicate}
@@ -14,7 +14,7 @@ use borrow.Author.Tests.{leb-false, ltb-false}
 use Rattle.meaning.specs.Answer.{Answer, accepted, refused, judged}
 use Rattle.meaning.specs.Records.{Outcome, run}
 use Rattle.meaning.proofs.Cases.{by-bool}
-use Rattle.meaning.proofs.Run.{run-taken, run-room}
+use Rattle.meaning.proofs.Run.{run-room}
 use Rattle.image.specs.Form.{form1, trailerOf}
 use Rattle.image.specs.Rules.{imageRules, checkImage}
 use Rattle.image.specs.Questions.{questions}
@@ -25,7 +25,7 @@ use Rattle.lists.specs.Wrote.{Wrote}
 use Rattle.lists.specs.Whole.{decoded}
 use Rattle.lists.specs.Listing.{linesText}
 use Rattle.lists.proofs.Wrote.{wrote-none}
-use Rattle.list.specs.Part.{noRecords, partAnswer, partRecords, partText, Parted}
+use Rattle.list.specs.Part.{noRecords, partAnswer, partRecords, Parted}
 use Rattle.list.specs.declared.Part.{Part}
 
 -- an accepted image's other two numbers are 0

@@ -7,26 +7,23 @@
 --   part-then           the listing of what is left: this part, and then what is left after it
 --   nothing-left        past the last event nothing is left
 -- Assumes nothing.
-use mathlib.Core.Path.{_≡_, refl, sym, ap, _∙_, subst}
-use mathlib.Core.Bool.{Bool, true, false}
+use mathlib.Core.Path.{_≡_, refl, ap, _∙_}
 use mathlib.Core.List.{List, [], _∷_, _++_, map}
-use Prim.Native.Nat.{ℕ, zero, suc, _+_, _*_, _-_, _/_, _≤_, _<_}
+use Prim.Native.Nat.{ℕ, zero, suc, _+_, _*_, _-_, _≤_, _<_}
 use native.Mathlib.Omega.{arith}
 use lib.ListN.{length, take, drop, getD, length-append, length-drop}
 use lib.Seq.{sets, sets-eq, take-at, drop-length, drop-drop, length-take-le}
 use lib.Dec.{eqb}
-use Rattle.wire.specs.Record.{recordBytes}
 use Rattle.meaning.specs.Answer.{Answer, accepted}
 use Rattle.meaning.specs.Questions.{Image}
 use Rattle.meaning.specs.Walk.{next}
-use Rattle.meaning.specs.Records.{Record, recorded, recordsWithin, recordsAt, Outcome, run}
+use Rattle.meaning.specs.Records.{Record, recordsWithin, recordsAt, Outcome, run}
 use Rattle.meaning.proofs.Cases.{by-bool}
 use Rattle.meaning.proofs.Run.{listing, run-records, run-room, run-taken, run-listing}
-use Rattle.image.specs.Form.{form1, placeAt}
+use Rattle.image.specs.Form.{placeAt}
 use Rattle.image.specs.Rules.{checkImage}
 use Rattle.image.specs.Questions.{questions}
 use Rattle.image.specs.Calls.{placesIn, runTold, runAnswer, listBytes, runMemory}
-use Rattle.lists.specs.Wrote.{Wrote}
 use Rattle.lists.specs.Whole.{joined, decoded}
 use Rattle.lists.specs.Group.{groupOf}
 use Rattle.lists.specs.Listing.{lineOf, eventNumber, linesText}

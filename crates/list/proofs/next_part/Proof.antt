@@ -1,13 +1,10 @@
 -- `next_part` meets its contract. Assumes nothing.
-use mathlib.Core.Path.{_≡_, refl, sym, ap, _∙_}
-use mathlib.Core.List.{List}
-use Prim.Native.Nat.{ℕ, _≤_}
+use mathlib.Core.Path.{refl, sym, ap, _∙_}
 use native.Mathlib.Omega.{arith}
 use lib.ListN.{length}
 use lib.Seq.{length-take-le}
 use borrow.Author.Needs.{needs}
 use Rattle.image.specs.Answers.{toldRan}
-use Rattle.lists.specs.Listing.{linesText}
 use Rattle.list.proofs.Parts.{answer-is, part-few, part-done, part-refused}
 use Rattle.list.proofs.next_part.Statement.{statement}
 use Rattle.list.proofs.next_part.Tie as tie
