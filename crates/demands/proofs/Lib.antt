@@ -7,6 +7,7 @@ pub mod Images
 pub mod Demand3
 pub mod Lists
 pub mod Demand2
+pub mod Parts
 pub mod Starred
 pub mod Determined
 pub mod Tied

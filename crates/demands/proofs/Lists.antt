@@ -1,5 +1,5 @@
 -- The list that a run wrote. From `Compiled xs ys` and `Ran ys base log n rs`: ran-is (the records are those of the run over the
--- book's image), ran-taken (and so are the events taken). On the way: `listBytes-joined`, `run-writes`, what a run that is not
+-- book's image), ran-taken (and so are the events taken), log-fits. On the way: `listBytes-joined`, `run-writes`, what a run that is not
 -- refused wrote; records-fit: its ends and lengths fit their bytes. Assumes nothing.
 use mathlib.Core.Path.{_≡_, refl, sym, ap, _∙_, subst}
 use mathlib.Core.Logic.{⊎-elim}
@@ -110,8 +110,8 @@ module _ {xs ys : List ℕ} (K : Compiled xs ys) (base : ℕ) (log : List ℕ) {
       ap (λ (zs : List ℕ). run (questions zs) room base 0 log) (image-is K)
       ∙ made-run (compiles K) room base 0 log (some-place δ (chains-of K) (numbers-of K))
 
-  fits : base + length log ≤ 4294967295
-  fits = passed ys base log (R .out) (R .answer) .1
+  pub log-fits : base + length log ≤ 4294967295
+  log-fits = passed ys base log (R .out) (R .answer) .1
 
   told : runTold (run (questions ys) room base 0 log) ≡ accepted n (R .place) (length rs) (R .steps)
   told = passed ys base log (R .out) (R .answer) .0
@@ -131,7 +131,7 @@ module _ {xs ys : List ℕ} (K : Compiled xs ys) (base : ℕ) (log : List ℕ) {
       let h = image-run-right δ es mark (chains-of K) (delta-names (bookOf xs)) (delta-only (bookOf xs)) N room base log r .0 m in
       let t = run-taken (imageOf δ es mark (chains-of K)) room base 0 log in
       let l = h .2 in
-      let f = fits in
+      let f = log-fits in
       let at = h .3 .at-end in
       let long = h .3 .its-length in
       let R = h .3 .its-reach in

@@ -4,5 +4,6 @@ pub mod Words
 pub mod Demand1
 pub mod Demand2
 pub mod Demand3
+pub mod Parts
 pub mod Starred
 pub mod Determined
