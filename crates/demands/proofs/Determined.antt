@@ -96,6 +96,7 @@ of-image =
       ask-mark = λ xs p. decided toldAsked asked-apart _;
       ask-edge = λ xs p a. decided toldEdged edged-apart _;
       step = λ xs p a. decided toldWalked walked-apart _;
+      next-in = λ xs q p a. decided toldWalked walked-apart _;
       open-image = λ lent x y h k. image-same x y (h .0 ∙ sym (k .0)) (h .1 ∙ sym (k .1)) (h .2 ∙ sym (k .2));
       fallback = λ M p. decided toldAsked asked-apart _;
       level = λ M p. decided toldAsked asked-apart _;

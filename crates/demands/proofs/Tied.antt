@@ -75,6 +75,8 @@ use Rattle.image.proofs.ask_edge.Reads as image-ask-edge-reads
 use Rattle.image.proofs.ask_edge.Kinds as image-ask-edge-kinds
 use Rattle.image.proofs.step.Reads as image-step-reads
 use Rattle.image.proofs.step.Kinds as image-step-kinds
+use Rattle.image.proofs.next_in.Reads as image-next-in-reads
+use Rattle.image.proofs.next_in.Kinds as image-next-in-kinds
 use Rattle.image.proofs.run.Reads as image-run-reads
 use Rattle.image.proofs.run.Kinds as image-run-kinds
 use Rattle.compile.proofs.compile.Reads as compile-compile-reads
@@ -208,6 +210,11 @@ image-ask-edge κs a r s e f h k = determined .of-image .ask-edge (now (a .0)) (
 image-step : (κs : Lfts 1) (a : Dens κs image-step-kinds.ps) (r s : Walked) (e f : _)
     → image-step-reads.Learnt κs a r e → image-step-reads.Learnt κs a s f → r ≡ s
 image-step κs a r s e f h k = determined .of-image .step (now (a .0)) (a .1 .0) (a .1 .1 .0) r s h k
+
+image-next-in : (κs : Lfts 1) (a : Dens κs image-next-in-kinds.ps) (r s : Walked) (e f : _)
+    → image-next-in-reads.Learnt κs a r e → image-next-in-reads.Learnt κs a s f → r ≡ s
+image-next-in κs a r s e f h k =
+    determined .of-image .next-in (now (a .0)) (a .1 .0) (a .1 .1 .0) (a .1 .1 .1 .0) r s h k
 
 image-run : (κs : Lfts 3) (a : Dens κs image-run-kinds.ps) (r s : Ran) (e f : _)
     → image-run-reads.Learnt κs a r e

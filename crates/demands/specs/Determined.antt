@@ -97,6 +97,7 @@ pub record OfImage : Type 0 where
   pub ask-mark : (xs : List ℕ) (p : ℕ) → One (λ r. toldAsked r ≡ checkedFirst xs (λ q. markIn xs q p))
   pub ask-edge : (xs : List ℕ) (p a : ℕ) → One (λ r. toldEdged r ≡ checkedFirst xs (λ q. edgeIn xs q p a))
   pub step : (xs : List ℕ) (p a : ℕ) → One (λ r. toldWalked r ≡ checkedFirst xs (λ q. nextIn xs q p a))
+  pub next-in : (xs : List ℕ) (q p a : ℕ) → One (λ r. toldWalked r ≡ nextIn xs q p a)
   -- the open image holds the very slice that was lent
   pub open-image : (lent : RefT (List ℕ)) → One (λ r. Opened lent r)
   -- its methods, and those of a walk

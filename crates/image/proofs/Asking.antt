@@ -1,5 +1,6 @@
 -- What is asked of any bytes with a place count, on plain values.
 --   place-refused, place-known      20 for a place not below the count; the answer for any other
+--   sought-is           the number of the edge found, or of none
 --   told-edge, told-no-edge, told-walk      an edge, none, and one event, as numbers
 --   Trying              the walk of one event with so many fallbacks left to try
 --   try-start, try-fail, try-edge, try-none     the turns of its loop, and its ends
@@ -14,10 +15,12 @@ use Rattle.meaning.specs.Choice.{then}
 use Rattle.meaning.specs.Answer.{Answer, accepted, refused, judged}
 use Rattle.meaning.specs.Questions.{Image, edgeOf}
 use Rattle.meaning.specs.Walk.{Stand, stand, failing, nextWithin, next}
+use Rattle.meaning.proofs.Cases.{by-option}
 use Rattle.image.specs.Calls.{placeRules, edgeTold, walkTold}
-use Rattle.image.specs.Held.{foundOf, MovedIs}
-use Rattle.image.specs.declared.Found.{Found}
-use Rattle.image.specs.declared.Found.the-variants.{At, Nothing}
+use Rattle.image.specs.Form.{EdgeRecord}
+use Rattle.image.specs.Questions.{seek}
+use Rattle.image.specs.Held.{noEdge, edgeOr, FoundIs, MovedIs}
+use Rattle.image.proofs.Seek.{seek-found}
 
 pub place-refused : (q p : ℕ) (x : Answer) → q ≤ p → refused 20 0 ≡ judged (placeRules q p) x
 place-refused q p x l = rw (le-leb q p l)
@@ -25,13 +28,22 @@ place-refused q p x l = rw (le-leb q p l)
 pub place-known : (q p : ℕ) (x : Answer) → p < q → x ≡ judged (placeRules q p) x
 place-known q p x l = rw (lt-leb q p l)
 
--- a search taken apart
-module _ (f : Found) (o : Option ℕ) (is : foundOf f ≡ o) where
-  pub sought-at : (j : ℕ) → f ≡ At j → o ≡ some j
-  sought-at j e = sym is ∙ ap foundOf e
-
-  pub sought-none : f ≡ Nothing → o ≡ none
-  sought-none e = sym is ∙ ap foundOf e
+-- what a search of edges answers: its number is small
+pub sought-is : (E : ℕ → EdgeRecord) (a n j r : ℕ) (o : Option ℕ) → o ≡ seek E a n j → r ≡ edgeOr (seek E a n j)
+    → j < 65536 → n < 65536 → FoundIs o 131072 r
+sought-is E a n j r o eo e lj ln =
+    by-option (seek E a n j)
+    (λ f.
+    let g : r ≡ noEdge = e ∙ ap edgeOr f in
+    record { missing = λ z. eo ∙ f; found = λ nz. absurd (nz g) })
+    (λ k f.
+    let g : r ≡ k = e ∙ ap edgeOr f in
+    let s = seek-found E a n j k f in
+    let l = s .1 in
+    record {
+      missing = λ z. absurd (let w : ⊥ = omega arith in w);
+      found = λ nz. (eo ∙ f ∙ ap {B = Option ℕ} some (sym g), omega arith);
+    })
 
 module _ (M : Image) where
   edge-some : (p a j : ℕ) → M .find p a ≡ some j → edgeOf M p a ≡ some (M .target j)

@@ -2,7 +2,6 @@
 --   HoldsPlace, HoldsEdge, HoldsEdges   the record of a place, of an edge, of n edges from j on, is among the bytes
 --   Sized               an image as long as its counts say, within the limits
 --   belowAt, reachedAt, placesFaultAt, eventsFaultAt, edgesFaultAt     records and scans of form 1
---   SoughtIs            the number of an edge, or none
 --   FaultIs             the number of a record at fault, at most m, or none
 --   edgesFor            the edge count of an image, where its place count is known
 --   Accepted            an image that the check accepts, with q places
@@ -75,11 +74,6 @@ foundOf Nothing = none
 abbrev pub Within : ℕ → Found → Type 0
 Within m (At i) = i ≤ m
 Within m Nothing = Unit {0}
-
--- the number of an edge, or none
-pub record SoughtIs (o : Option ℕ) (r : Found) : Type 0 where
-  pub is : foundOf r ≡ o
-  pub within : Within 131072 r
 
 pub record FaultIs (o : Option ℕ) (m : ℕ) (r : Found) : Type 0 where
   pub is : foundOf r ≡ o

@@ -156,6 +156,13 @@ pub fn step(image: &[u8], place: u32, event: u8) -> Walked
     }
 }
 
+// One event of a walk over an image whose place count is known: it is not checked again.
+pub fn next_in(image: &[u8], places: u32, place: u32, event: u8) -> Walked
+    ensures { λ r. ⌜ toldWalked r ≡ nextIn (now (image .entry)) places place event ⌝ }
+{
+    questions::next_in(image, places, place, event)
+}
+
 // ---- the open image: each function takes it apart, and calls the one on the bytes and the place count
 
 fn place_count(image: &[u8]) -> u32

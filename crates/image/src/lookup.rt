@@ -9,7 +9,7 @@ ghost use Rattle.image.specs.Held.{HoldsEdges, Rising, edgeOr, FoundIs, 
 // A number that no edge has.
 pub(crate) const NONE: usize = 4294967295;
 
-fn linear(image: &[u8], places: usize, event: usize, left: usize, j: usize) -> usize
+pub(crate) fn linear(image: &[u8], places: usize, event: usize, left: usize, j: usize) -> usize
     requires { ⌜ HoldsEdges (now image) places j left ⌝ }
     ensures { λ r. ⌜ r ≡ edgeOr (seek (edgeAt form1 (now (image .entry)) places) event left j) ⌝ }
 {

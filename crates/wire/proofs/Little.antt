@@ -1,5 +1,5 @@
--- Laws of little-endian numbers. `le16-out`, `le32-out`, `put16-out`, `put32-out`: past the end. `le16-put16`, `le32-put32`: what was
--- written is read back. `getD-put16`, `getD-put32`, `le16-put16-other`: what stands elsewhere stays. `length-put16`, `length-put32`: so
+-- Laws of little-endian numbers. `le16-out`, `le16-last`, `le32-out`, `put16-out`, `put32-out`: past the end. `le16-put16`,
+-- `le32-put32`: what was written is read back. `getD-put16`, `getD-put32`, `le16-put16-other`: what stands elsewhere stays. `length-put16`, `length-put32`: so
 -- does the length. Assumes nothing.
 use Prim.Native.Nat.{ℕ, _+_, _/_, _%_, _<_, _≤_}
 use mathlib.Core.List.{List}
@@ -8,12 +8,20 @@ use mathlib.Core.Logic.{_≢_, _⊎_, inl, inr}
 use native.Mathlib.Omega.{arith}
 use lib.ListN.{length, getD, set, length-set, List·getD-eq-default}
 use lib.Seq.{getD-set-same, getD-set-other, set-out}
-use Rattle.wire.specs.Little.{le16At, le32At, put16At, put32At}
+use Rattle.wire.specs.Little.{le16At, le32At, put16At, put32At, ByteIs, NumberIs}
 
 pub le16-out : (xs : List ℕ) (at : ℕ) → length xs ≤ at → le16At xs at ≡ 0
 le16-out xs at h =
     let h₁ : length xs ≤ at + 1 = omega arith in
     omega (arith, List·getD-eq-default xs 0 h, List·getD-eq-default xs 0 h₁)
+
+-- of two bytes only the first is there
+pub le16-last : (xs : List ℕ) (at r : ℕ) → length xs ≤ at + 1 → ByteIs xs at r → NumberIs (le16At xs at) 65536 r
+le16-last xs at r h B =
+    let e = B .is in
+    let s = B .small in
+    let z = List·getD-eq-default xs 0 h in
+    record { is = omega arith; small = omega arith }
 
 pub le32-out : (xs : List ℕ) (at : ℕ) → length xs ≤ at → le32At xs at ≡ 0
 le32-out xs at h = omega (arith, le16-out xs at h, le16-out xs (at + 2) (omega arith))

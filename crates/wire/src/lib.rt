@@ -11,11 +11,29 @@ pub fn byte_at(s: &[u8], at: usize) -> usize
     if at < s.len() { s[at] as usize } else { 0 }
 }
 
+fn wide(x: u8) -> usize
+    ensures { λ r. ⌜ NumberIs x 256 r ⌝ }
+{
+    x as usize
+}
+
+// Two bytes that are both there, read without a test between them: in one go.
+fn pair(s: &[u8], at: usize) -> usize
+    requires { ⌜ at + 1 < length (now s) ⌝ }
+    ensures { λ r. ⌜ NumberIs (le16At (now (s .entry)) at) 65536 r ⌝ }
+{
+    wide(s[at]) + 256 * wide(s[at + 1])
+}
+
 pub fn le16(s: &[u8], at: usize) -> usize
     ensures { λ r. ⌜ NumberIs (le16At (now (s .entry)) at) 65536 r ⌝ }
 {
     if at < s.len() {
-        byte_at(s, at) + 256 * byte_at(s, at + 1)
+        if at + 1 < s.len() {
+            pair(s, at)
+        } else {
+            byte_at(s, at)
+        }
     } else {
         0
     }

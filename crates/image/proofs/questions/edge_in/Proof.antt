@@ -1,7 +1,6 @@
 -- `image::questions::edge_in` meets its contract.
 -- Assumes nothing.
-use Rattle.image.proofs.Scan.{fault-within}
-use Rattle.image.proofs.Asking.{place-refused, place-known, sought-at, sought-none, told-edge, told-no-edge}
+use Rattle.image.proofs.Asking.{place-refused, place-known, told-edge, told-no-edge}
 use Rattle.image.specs.Calls.{edgeIn}
 use Rattle.image.specs.Questions.{questionsAt}
 use Rattle.image.specs.Form.{form1}
@@ -27,56 +26,43 @@ wide-requires c κs = search needs
 seek-in-requires : tie.Need-seek-in-requires
 seek-in-requires c κs = search needs
 
-enum-known-j : tie.Need-enum-known-j
-enum-known-j c = search needs
-
-edge-target-requires : tie.Need-edge-target-requires
-edge-target-requires c κs =
-    let w = fault-within _ _ _ (c .before .before .before .seek-in .ensures .within) (c .before .j .given .1) in
-    (omega arith, omega arith)
-
-cast-t13 : tie.Need-cast-t13
-cast-t13 c = search needs
-
-enum-told : tie.Need-enum-told
-enum-told c = search needs
-
 returns-2 : tie.Need-returns-2
 unfolding edgeIn
 returns-2 c =
-    let at-seek-in = c .before .before .before .before in
-    let at-wide = at-seek-in .before in
-    let at-wide322 = at-wide .before in
-    let at-wide32 = at-wide322 .before in
-    let at-if1 = at-wide32 .before in
-    let s = at-if1 .before .before in
-    let M = questionsAt form1 (s .args .bytes .now) (s .args .places) in
-    told-edge M (s .args .place) (s .args .event) _ _
-    (sought-at _ _ (rw (
-      ← at-wide32 .wide32 .ensures .is,
-      ← at-wide322 .wide322 .ensures .is,
-      ←
-          at-wide .wide .ensures .is,
-    ) (at-seek-in .seek-in .ensures .is)) _ (c .before .before .j .given .1))
-    (rw (← at-wide32 .wide32 .ensures .is) (c .edge-target .ensures .is)) ∙ place-known _ _ _ (at-if1 .if1 .left)
-
-returns-3 : tie.Need-returns-3
-unfolding edgeIn
-returns-3 c =
-    let at-wide = c .before .before .before in
+    let at-wide = c .before .before in
     let at-wide322 = at-wide .before in
     let at-wide32 = at-wide322 .before in
     let at-if1 = at-wide32 .before in
     let s = at-if1 .before .before in
     let M = questionsAt form1 (s .args .bytes .now) (s .args .places) in
     told-no-edge M (s .args .place) (s .args .event)
-    (sought-none _ _ (rw (
-      ← at-wide32 .wide32 .ensures .is,
-      ← at-wide322 .wide322 .ensures .is,
-      ←
-          at-wide .wide .ensures .is,
-    ) (c .before .before .seek-in .ensures .is)) (c .enum-told .given .1)) ∙ place-known _
-    _ _ (at-if1 .if1 .left)
+    (rw (← at-wide32 .wide32 .ensures .is, ← at-wide322 .wide322 .ensures .is, ← at-wide .wide .ensures .is)
+    (c .before .seek-in .ensures .missing (c .if2 .taken)))
+    ∙ place-known _ _ _ (at-if1 .if1 .left)
+
+edge-target-requires : tie.Need-edge-target-requires
+edge-target-requires c κs =
+    let w = c .before .seek-in .ensures .found (c .if2 .left) .1 in
+    (omega arith, omega arith)
+
+cast-t10 : tie.Need-cast-t10
+cast-t10 c = search needs
+
+returns-3 : tie.Need-returns-3
+unfolding edgeIn
+returns-3 c =
+    let at-seek-in = c .before .before in
+    let at-wide = at-seek-in .before in
+    let at-wide322 = at-wide .before in
+    let at-wide32 = at-wide322 .before in
+    let at-if1 = at-wide32 .before in
+    let s = at-if1 .before .before in
+    let M = questionsAt form1 (s .args .bytes .now) (s .args .places) in
+    told-edge M (s .args .place) (s .args .event) (at-seek-in .seek-in .result) (c .edge-target .result)
+    (rw (← at-wide32 .wide32 .ensures .is, ← at-wide322 .wide322 .ensures .is, ← at-wide .wide .ensures .is)
+    (at-seek-in .seek-in .ensures .found (c .before .if2 .left) .0))
+    (rw (← at-wide32 .wide32 .ensures .is) (c .edge-target .ensures .is))
+    ∙ place-known _ _ _ (at-if1 .if1 .left)
 
 pub edge-in-spec : {M : Type 1} → statement M
 edge-in-spec =
@@ -87,9 +73,7 @@ edge-in-spec =
     wide32-requires-2
     wide-requires
     seek-in-requires
-    enum-known-j
-    edge-target-requires
-    cast-t13
-    enum-told
     returns-2
+    edge-target-requires
+    cast-t10
     returns-3)

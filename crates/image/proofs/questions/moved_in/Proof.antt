@@ -1,8 +1,8 @@
 -- `image::questions::moved_in` meets its contract. The loop carries the walk with the fallbacks left: the turns of
 -- `Asking`.
 -- Assumes nothing.
-use Rattle.image.proofs.Scan.{fault-within}
-use Rattle.image.proofs.Asking.{sought-at, sought-none, Trying, try-start, try-fail, try-edge, try-none}
+use Rattle.image.proofs.Asking.{Trying, try-start, try-fail, try-edge, try-none}
+use Rattle.image.specs.Held.{FoundIs}
 use Rattle.image.specs.Questions.{questionsAt}
 use Rattle.image.specs.Form.{form1}
 use native.Mathlib.Omega.{arith}
@@ -13,51 +13,38 @@ use Rattle.image.proofs.questions.moved_in.Statement.{statement}
 use Rattle.image.proofs.questions.moved_in.Tie as tie
 
 abbrev Inv-loop : tie.InvT-loop
-Inv-loop bytes places place event p₀ left₀ steps₀ p left steps =
+Inv-loop bytes places place event p₀ left₀ steps₀ j₀ p left steps j =
     (p < 4294967296) × Trying (questionsAt form1 bytes places) place event p left steps
+    × FoundIs (questionsAt form1 bytes places .find p event) 131072 j
 
 abbrev μ-loop : tie.MeasureT-loop
-μ-loop bytes places place event p₀ left₀ steps₀ p left steps = left
-
-loop-holds : tie.Need-loop-holds Inv-loop μ-loop
-loop-holds c =
-    let s = c .before in
-    let M = questionsAt form1 (s .args .bytes .now) (s .args .places) in
-    (s .pre .1, try-start M _ _)
+μ-loop bytes places place event p₀ left₀ steps₀ j₀ p left steps j = left
 
 seek-in-requires : tie.Need-seek-in-requires Inv-loop μ-loop
 seek-in-requires c κs = search needs
 
-enum-known-j : tie.Need-enum-known-j Inv-loop μ-loop
-enum-known-j c = search needs
-
-edge-target-requires : tie.Need-edge-target-requires Inv-loop μ-loop
-edge-target-requires c κs =
-    let w = fault-within _ _ _ (c .before .before .before .seek-in .ensures .within) (c .before .j .given .1) in
-    (omega arith, omega arith)
+loop-holds : tie.Need-loop-holds Inv-loop μ-loop
+loop-holds c =
+    let s = c .before .before in
+    let M = questionsAt form1 (s .args .bytes .now) (s .args .places) in
+    (s .pre .1, try-start M _ _, c .seek-in .ensures)
 
 returns : tie.Need-returns Inv-loop μ-loop
 returns c =
-    let at-seek-in = c .before .before .before .before in
-    let at-loop = at-seek-in .before .before in
-    let s = at-loop .before .before in
+    let at-loop = c .before .before in
+    let s = at-loop .before .before .before in
     let M = questionsAt form1 (s .args .bytes .now) (s .args .places) in
     let i = at-loop .loop in
-    try-edge M _ _ _ _ _ (i .inv .1) _ _ (sought-at _ _ (at-seek-in .seek-in .ensures .is) _
-    (c .before .before .j .given .1)) (c .edge-target .ensures .is) (c .edge-target .ensures .small)
-
-enum-told : tie.Need-enum-told Inv-loop μ-loop
-enum-told c = search needs
+    try-none M _ _ _ _ _ (i .inv .1) (i .inv .2 .missing (c .before .loop-test .taken)) (λ l. absurd (l (c .if1 .taken)))
 
 returns-2 : tie.Need-returns-2 Inv-loop μ-loop
 returns-2 c =
-    let at-seek-in = c .before .before .before in
-    let at-loop = at-seek-in .before .before in
-    let s = at-loop .before .before in
+    let at-test = c .before .before in
+    let at-loop = at-test .before in
+    let s = at-loop .before .before .before in
     let M = questionsAt form1 (s .args .bytes .now) (s .args .places) in
     let i = at-loop .loop in
-    try-none M _ _ _ _ _ (i .inv .1) (sought-none _ _ (at-seek-in .seek-in .ensures .is)
-    (c .before .enum-told .given .1)) (λ l. c .if1 .taken)
+    try-none M _ _ _ _ _ (i .inv .1) (i .inv .2 .missing (at-test .loop-test .taken)) (λ l. c .if2 .taken)
 
 fallback-requires : tie.Need-fallback-requires Inv-loop μ-loop
 fallback-requires c κs = search needs
@@ -67,60 +54,51 @@ sub-left c = search needs
 
 add-steps : tie.Need-add-steps Inv-loop μ-loop
 add-steps c =
-    let at-loop = c .before .before .before .before .before .before in
-    let i = at-loop .loop in
+    let i = c .before .before .before .before .loop in
     let t = i .inv .1 .tried in
     omega arith
+
+seek-in-requires-2 : tie.Need-seek-in-requires-2 Inv-loop μ-loop
+seek-in-requires-2 c κs =
+    let s = c .before .before .before .before .before .before .before in
+    let small = c .fallback .ensures .small in
+    (s .pre .0, omega arith)
 
 loop-less : tie.Need-loop-less Inv-loop μ-loop
 loop-less c = search needs
 
 loop-again : tie.Need-loop-again Inv-loop μ-loop
 loop-again c =
-    let at-seek-in = c .before .before .before .before in
-    let at-loop-test = at-seek-in .before in
-    let at-loop = at-loop-test .before in
-    let s = at-loop .before .before in
+    let at-fallback = c .before in
+    let at-if2 = at-fallback .before in
+    let at-if1 = at-if2 .before in
+    let at-test = at-if1 .before in
+    let at-loop = at-test .before in
+    let s = at-loop .before .before .before in
     let M = questionsAt form1 (s .args .bytes .now) (s .args .places) in
-    let i = at-loop .loop in (
-      let k = c .fallback .ensures .small in omega arith,
-      try-fail M _ _ _ _ _ (i .inv .1) _ _
-          (sought-none _ _ (at-seek-in .seek-in .ensures .is) (c .before .before .enum-told .given .1))
-          (at-loop-test .loop-test .taken) (c .before .if1 .left) (c .fallback .ensures .is) refl,
+    let i = at-loop .loop in
+    let more = at-if1 .if1 .left in (
+      let k = at-fallback .fallback .ensures .small in omega arith,
+      try-fail M _ _ _ _ _ (i .inv .1) _ _ (i .inv .2 .missing (at-test .loop-test .taken)) (omega arith)
+          (at-if2 .if2 .left) (at-fallback .fallback .ensures .is) refl,
+      c .seek-in2 .ensures,
     )
 
-seek-in-requires-2 : tie.Need-seek-in-requires-2 Inv-loop μ-loop
-seek-in-requires-2 c κs = search needs
-
-enum-known-j-2 : tie.Need-enum-known-j-2 Inv-loop μ-loop
-enum-known-j-2 c = search needs
-
-edge-target-requires-2 : tie.Need-edge-target-requires-2 Inv-loop μ-loop
-edge-target-requires-2 c κs =
-    let w = fault-within _ _ _ (c .before .before .before .seek-in2 .ensures .within) (c .before .j2 .given .1) in
+edge-target-requires : tie.Need-edge-target-requires Inv-loop μ-loop
+edge-target-requires c κs =
+    let s = c .before .before .before .before in
+    let w = c .before .loop .inv .2 .found (c .loop-test .left) .1 in
+    let q = s .pre .0 in
     (omega arith, omega arith)
-
-enum-told-2 : tie.Need-enum-told-2 Inv-loop μ-loop
-enum-told-2 c = search needs
 
 returns-3 : tie.Need-returns-3 Inv-loop μ-loop
 returns-3 c =
-    let at-seek-in2 = c .before .before .before .before in
-    let at-loop = at-seek-in2 .before .before in
-    let s = at-loop .before .before in
+    let at-loop = c .before .before in
+    let s = at-loop .before .before .before in
     let M = questionsAt form1 (s .args .bytes .now) (s .args .places) in
     let i = at-loop .loop in
-    try-edge M _ _ _ _ _ (i .inv .1) _ _ (sought-at _ _ (at-seek-in2 .seek-in2 .ensures .is) _
-    (c .before .before .j2 .given .1)) (c .edge-target2 .ensures .is) (c .edge-target2 .ensures .small)
-
-returns-4 : tie.Need-returns-4 Inv-loop μ-loop
-returns-4 c =
-    let at-loop = c .before .before .before .before in
-    let s = at-loop .before .before in
-    let M = questionsAt form1 (s .args .bytes .now) (s .args .places) in
-    let i = at-loop .loop in
-    try-none M _ _ _ _ _ (i .inv .1) (sought-none _ _ (c .before .before .seek-in2 .ensures .is)
-    (c .enum-told2 .given .1)) (λ l. absurd (let w : ⊥ = omega arith in w))
+    try-edge M _ _ _ _ _ (i .inv .1) _ _ (i .inv .2 .found (c .before .loop-test .left) .0) (c .edge-target .ensures .is)
+    (c .edge-target .ensures .small)
 
 pub moved-in-spec : {M : Type 1} → statement M
 moved-in-spec =
@@ -128,21 +106,15 @@ moved-in-spec =
     (tie.spec
     Inv-loop
     μ-loop
-    loop-holds
     seek-in-requires
-    enum-known-j
-    edge-target-requires
+    loop-holds
     returns
-    enum-told
     returns-2
     fallback-requires
     sub-left
     add-steps
+    seek-in-requires-2
     loop-less
     loop-again
-    seek-in-requires-2
-    enum-known-j-2
-    edge-target-requires-2
-    enum-told-2
-    returns-3
-    returns-4)
+    edge-target-requires
+    returns-3)

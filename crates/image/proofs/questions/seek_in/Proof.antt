@@ -1,88 +1,52 @@
--- `image::questions::seek_in` meets its contract. The loop carries that the edges left are searched.
+-- `image::questions::seek_in` meets its contract: both searches answer alike.
 -- Assumes nothing.
-use Rattle.image.proofs.Seek.{seek-step, seek-end}
-use Rattle.image.specs.Questions.{seek, questionsAt}
+use Rattle.image.proofs.Asking.{sought-is}
 use Rattle.image.specs.Form.{form1, edgeAt}
-use borrow.Author.Tests.{eq-eqb, ne-eqb}
-use native.Mathlib.Omega.{arith}
-use mathlib.Core.Path.{_≡_}
-use Prim.Native.Nat.{_+_, _≤_}
 use borrow.Author.Needs.{needs}
 use Rattle.image.proofs.questions.seek_in.Statement.{statement}
 use Rattle.image.proofs.questions.seek_in.Tie as tie
 
-abbrev Inv-loop : tie.InvT-loop
-Inv-loop bytes places place event left₀ j₀ left j =
-    (j + left ≤ 131072) × (questionsAt form1 bytes places .find place event ≡ seek (edgeAt form1 bytes places) event
-    left j)
-
-abbrev μ-loop : tie.MeasureT-loop
-μ-loop bytes places place event left₀ j₀ left j = left
-
-count-requires : tie.Need-count-requires Inv-loop μ-loop
+count-requires : tie.Need-count-requires
 count-requires c κs = search needs
 
-first-requires : tie.Need-first-requires Inv-loop μ-loop
+first-requires : tie.Need-first-requires
 first-requires c κs = search needs
 
-loop-holds : tie.Need-loop-holds Inv-loop μ-loop
-loop-holds c = (omega arith, rw (c .first .ensures .is, c .before .count .ensures .is))
+among-requires : tie.Need-among-requires
+among-requires c κs = search needs
 
-edge-event-requires : tie.Need-edge-event-requires Inv-loop μ-loop
-edge-event-requires c κs = search needs
+linear-requires : tie.Need-linear-requires
+linear-requires c κs = c .before .among .ensures (c .if1 .taken)
 
-returns : tie.Need-returns Inv-loop μ-loop
+seek-any-requires : tie.Need-seek-any-requires
+seek-any-requires c κs = search needs
+
+returns : tie.Need-returns
 returns c =
-    record {
-      is = rw (
-        c .before .before .before .loop .inv .1,
-        seek-step _ _ _ _
-            (c .before .before .loop-test .taken),
-        ← c .before .edge-event .ensures .is,
-        eq-eqb _ _ (c .if1 .taken),
-      );
-      within = omega arith;
-    }
+    let at-first = c .before .before .before in
+    let at-count = at-first .before in
+    let s = at-count .before .before in
+    sought-is (edgeAt form1 (s .args .bytes .now) (s .args .places)) _ _ _ _ _
+    (rw (at-first .first .ensures .is, at-count .count .ensures .is)) (c .linear .ensures) (at-first .first .ensures .small)
+    (at-count .count .ensures .small)
 
-sub-left : tie.Need-sub-left Inv-loop μ-loop
-sub-left c = search needs
-
-add-j : tie.Need-add-j Inv-loop μ-loop
-add-j c = search needs
-
-loop-less : tie.Need-loop-less Inv-loop μ-loop
-loop-less c = search needs
-
-loop-again : tie.Need-loop-again Inv-loop μ-loop
-loop-again c = (
-  omega arith,
-  rw (
-    c .before .before .before .loop .inv .1,
-    seek-step _ _ _ _
-        (c .before .before .loop-test .taken),
-    ← c .before .edge-event .ensures .is,
-    ne-eqb _ _ (c .if1 .left),
-  ),
-)
-
-returns-2 : tie.Need-returns-2 Inv-loop μ-loop
+returns-2 : tie.Need-returns-2
 returns-2 c =
-    let z : c .before .loop .left ≡ 0 = omega arith in
-    record { is = rw (c .before .loop .inv .1, seek-end _ _ _ _ z); within = tt }
+    let at-first = c .before .before .before in
+    let at-count = at-first .before in
+    let s = at-count .before .before in
+    sought-is (edgeAt form1 (s .args .bytes .now) (s .args .places)) _ _ _ _ _
+    (rw (at-first .first .ensures .is, at-count .count .ensures .is)) (c .seek-any .ensures) (at-first .first .ensures .small)
+    (at-count .count .ensures .small)
 
 pub seek-in-spec : {M : Type 1} → statement M
 seek-in-spec =
     tie.close
     (tie.spec
-    Inv-loop
-    μ-loop
     count-requires
     first-requires
-    loop-holds
-    edge-event-requires
+    among-requires
+    linear-requires
+    seek-any-requires
     returns
-    sub-left
-    add-j
-    loop-less
-    loop-again
     returns-2)

@@ -1,0 +1,2 @@
+-- The turn of the one loop.
+pub mod Summing

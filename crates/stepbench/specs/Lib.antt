@@ -1,0 +1,2 @@
+-- What the bench's one function answers.
+pub mod Sum
