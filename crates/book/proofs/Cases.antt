@@ -37,6 +37,10 @@ pub not-false : (b : Bool) → not b ≡ false → b ≡ true
 not-false true e = refl
 not-false false e = true-false refl e
 
+pub not-true : (b : Bool) → not b ≡ true → b ≡ false
+not-true true e = true-false e refl
+not-true false e = refl
+
 pub or-false : (a b : Bool) → a || b ≡ false → (a ≡ false) × (b ≡ false)
 or-false true b e = true-false refl e
 or-false false b e = (refl, e)

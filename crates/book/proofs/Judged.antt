@@ -1,5 +1,6 @@
 -- What the rules say of a book that none of them refuses, and how the check goes from row to row. Assumes nothing.
 --   Passed, judged-passed       every rule of a list finds no fault; so it is where the answer is an acceptance
+--   passed-judged               what is judged then is what comes after the list
 --   TrailerRight, trailer-right what rules 1 to 6 leave
 --   row-past, row-at ..         one row of the table, passed or refusing
 --   Verdict, verdict            from the trailer to the table
@@ -19,7 +20,7 @@ use Rattle.meaning.specs.Answer.{Answer, accepted, refused, Rule, judged, fault
 use Rattle.book.specs.Form.{mostStates, mostEdges, mostBytes, trailerSize, sizeOf}
 use Rattle.book.specs.Form.{SB, lettersRight, trailerOf, tableAt, tableOf}
 use Rattle.book.specs.Rules.{trailerRules, tableRules, checkBook}
-use Rattle.book.specs.Reads.{numbered, placed}
+use Rattle.book.specs.Reads.{numbered, placed, HoldsEdges}
 use Rattle.book.specs.declared.Fault.{Fault}
 use Rattle.book.specs.declared.Fault.the-variants.{At, Nothing}
 use Rattle.book.specs.declared.Trailer.{Trailer}
@@ -42,6 +43,10 @@ judged-passed (r ∷ rs) x {a} {b} {c} {d} e =
 
     refuses : (p : ℕ) → r .fault ≡ some p → judged (r ∷ rs) x ≡ refused (r .number) p
     refuses p f = rw f
+
+pub passed-judged : (rs : List Rule) (x : Answer) → Passed rs → judged rs x ≡ x
+passed-judged [] x p = refl
+passed-judged (r ∷ rs) x (f, p) = rw f (passed-judged rs x p)
 
 -- a rule by a test is passed where the test fails
 pub rule-passed : (b : Bool) (p : ℕ) → when b (some p) none ≡ none → b ≡ false
@@ -104,6 +109,7 @@ module _ (n : ℕ) (x : Answer) where
 pub record Verdict (xs : List ℕ) (T : Trailer) (number : ℕ) : Type 0 where
   pub refuses : (number ≡ 0 → ⊥) → refused number 0 ≡ checkBook xs
   pub right : number ≡ 0 → TrailerRight (length xs) (lettersRight SB xs) T
+  pub holds : number ≡ 0 → (t : List ℕ) → t ≡ tableOf xs → HoldsEdges t (T .states) (T .edges)
   pub passes : number ≡ 0 → (x : Answer) (t : List ℕ) → t ≡ tableOf xs
       → x ≡ judged (tableRules t (T .states) (T .edges)) (accepted (T .states) (T .edges) 0 0) → x ≡ checkBook xs
 
@@ -122,11 +128,20 @@ module _ (xs : List ℕ) {T : Trailer} {l : Bool} (number : ℕ) (e : T ≡ trai
       let k : numbered number x ≡ x = rw z in
       rw f at (trailer-right (length xs) l T (judged-passed (trailerRules (length xs) l T) x (sym (h x) ∙ k) .0))
 
+  zero-holds : number ≡ 0 → (t : List ℕ) → t ≡ tableOf xs → HoldsEdges t (T .states) (T .edges)
+  unfolding tableAt
+  zero-holds z t p =
+      let r = zero-right z in
+      let d : T .distance ≡ trailerOf xs .distance = ap (λ (y : Trailer). y .distance) e in
+      let w = length-drop (tableAt xs) xs in
+      rw p (omega (arith, w, d, r .distance, r .inside))
+
   pub verdict : Verdict xs T number
   verdict =
       record {
         refuses = λ n. let k : numbered number rest ≡ refused number 0 = rw (ne-eqb number 0 n) in sym k ∙ answer;
         right = zero-right;
+        holds = zero-holds;
         passes = λ z x t p q. let k : numbered number rest ≡ rest = rw z in rw p at q ∙ (sym k ∙ answer);
       }
 

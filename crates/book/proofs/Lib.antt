@@ -5,6 +5,7 @@
 --   Judged              the rules, row by row
 --   Model, Look         the model of a table, and what is found in it
 --   Searches            what a search that finds nothing went past
+--   Sound               a table that breaks no rule, found in one pass
 --   Accepted            what an accepted book is
 --   Note                what stands before the state table changes nothing
 --   Examples            document 01's book A, computed
@@ -16,6 +17,7 @@ pub mod Judged
 pub mod Model
 pub mod Searches
 pub mod Look
+pub mod Sound
 pub mod Accepted
 pub mod Note
 pub mod Examples

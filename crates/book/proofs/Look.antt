@@ -3,20 +3,30 @@
 -- Assumes nothing.
 --   SeekLoop            the search from the first edge is the search from edge j
 --   Narrowed            the event is not before edge j, nor from edge j + left on
+--   narrowed-all        all edges, at the start
+--   narrowed-start      among `count` bytes that rise an event stands from event + count - 256 to event
 use mathlib.Core.Path.{_≡_, refl, sym, ap, _∙_}
 use mathlib.Core.Bool.{false}
 use mathlib.Core.Option.{Option, none, some}
 use mathlib.Core.List.{List}
-use Prim.Native.Nat.{ℕ, zero, suc, _+_, _-_, _/_, _≤_, _<_}
+use Prim.Native.Nat.{ℕ, zero, suc, _+_, _-_, _/_, _≤_, _<_, min}
 use native.Mathlib.Omega.{arith}
+use lib.ListN.{getD}
 use lib.Dec.{eqb}
 use borrow.Author.Tests.{eq-eqb, ne-eqb}
 use Rattle.meaning.specs.Book.{look}
 use Rattle.book.specs.Form.{edgeRecordAt}
 use Rattle.book.specs.Model.{listFrom, edgesFrom, RiseFrom}
+use Rattle.book.specs.declared.EdgeRecord.{EdgeRecord}
 use Rattle.book.proofs.Cases.{by-eq, by-below}
 use Rattle.book.proofs.Model.{look-turn, look-end}
 use Rattle.book.proofs.Searches.{look-finds}
+
+pub event-is : {e x : EdgeRecord} → e ≡ x → e .event ≡ x .event
+event-is h = ap (λ (y : EdgeRecord). y .event) h
+
+pub target-is : {e x : EdgeRecord} → e ≡ x → e .target ≡ x .target
+target-is h = ap (λ (y : EdgeRecord). y .target) h
 
 -- ---- one after the other
 pub record SeekLoop (t : List ℕ) (S a first count j left : ℕ) : Type 0 where
@@ -52,13 +62,51 @@ pub record Narrowed (t : List ℕ) (S a first count j left : ℕ) : Type 0 where
   pub below : (k : ℕ) → first ≤ k → k < j → edgeRecordAt t S k .event < a
   pub above : (k : ℕ) → j + left ≤ k → k < first + count → a < edgeRecordAt t S k .event
 
-pub narrowed-start : (t : List ℕ) (S a first count : ℕ) → Narrowed t S a first count first count
-narrowed-start t S a first count =
+event-small : (t : List ℕ) (S : ℕ) → ((i : ℕ) → getD t i 0 < 256) → (k : ℕ) → edgeRecordAt t S k .event < 256
+unfolding edgeRecordAt
+event-small t S bytes k = bytes _
+
+-- no event is above 255
+pub look-above : (t : List ℕ) (S a n j : ℕ) → ((i : ℕ) → getD t i 0 < 256) → 255 < a
+    → none ≡ look (edgesFrom t S n j) a
+look-above t S a n j bytes h = sym (look-none t S a n j (λ k l u e. let b = event-small t S bytes k in omega arith))
+
+-- among bytes that rise: d edges on, the event is greater by d at least
+spread : (t : List ℕ) (S first count : ℕ) → RiseFrom t S count first → (d k : ℕ) → first ≤ k → k + d < first + count
+    → edgeRecordAt t S k .event + d ≤ edgeRecordAt t S (k + d) .event
+spread t S first count R zero k l u = let e : k + 0 ≡ k = omega arith in rw e (omega arith)
+spread t S first count R (suc d) k l u =
+    let s = spread t S first count R d k l (omega arith) in
+    let b = R (k + d) (k + suc d) (omega arith) (omega arith) u in
+    omega arith
+
+-- all of them
+pub narrowed-all : (t : List ℕ) (S a first count : ℕ) → Narrowed t S a first count first count
+narrowed-all t S a first count =
     record {
       low = omega arith;
       high = omega arith;
       below = λ k l u. absurd (let w : ⊥ = omega arith in w);
       above = λ k l u. absurd (let w : ⊥ = omega arith in w);
+    }
+
+pub narrowed-start : (t : List ℕ) (S a first count low high left : ℕ) → RiseFrom t S count first
+    → ((i : ℕ) → getD t i 0 < 256) → a < 256 → low ≡ a + count - 256 → high ≡ min (a + 1) count → left ≡ high - low
+    → Narrowed t S a first count (first + low) left
+narrowed-start t S a first count low high left R bytes small el eh ef =
+    record {
+      low = omega arith;
+      high = omega arith;
+      below = λ k l u.
+          let last = first + count - 1 in
+          let e : k + (last - k) ≡ last = omega arith in
+          let s = rw e at (spread t S first count R (last - k) k l (omega arith)) in
+          let b = event-small t S bytes last in
+          omega arith;
+      above = λ k l u.
+          let e : first + (k - first) ≡ k = omega arith in
+          let s = rw e at (spread t S first count R (k - first) first (omega arith) (omega arith)) in
+          omega arith;
     }
 
 pub narrowed-end : {t : List ℕ} {S a first count j left : ℕ} → Narrowed t S a first count j left → left ≡ 0

@@ -2,11 +2,11 @@
 -- Assumes nothing.
 --   state-in, state-out         a state below S; any other
 --   mark-in, count-in, outs-in  its mark, the number of its edges, their events
---   edges-step, events-step     the edges from edge j on, one after the other
+--   edges-step, events-step     the edges from edge j on, one after the other; events-at, the event of one of them
 --   look-turn                   a search among them
 --   first-in, lead-delta        the first edge of each state; where an event leads by it is where it leads in the book
 use mathlib.Core.Path.{_≡_, refl, sym, ap, _∙_}
-use mathlib.Core.Option.{none, some}
+use mathlib.Core.Option.{Option, none, some}
 use mathlib.Core.List.{List, [], _∷_, map}
 use Prim.Native.Nat.{ℕ, zero, suc, _+_, _-_, _%_, _≤_, _<_}
 use native.Mathlib.Omega.{arith}
@@ -92,6 +92,14 @@ module _ (t : List ℕ) (S : ℕ) where
   unfolding listFrom
   events-end n j e = rw e
 
+  pub events-at : (n j i : ℕ) → i < n → getD (eventsFrom n j) i 0 ≡ edgeRecordAt t S (j + i) .event
+  unfolding listFrom
+  events-at zero j i h = absurd (let w : ⊥ = omega arith in w)
+  events-at (suc n) j zero h = let e : j + 0 ≡ j = omega arith in rw e
+  events-at (suc n) j (suc i) h =
+      let e : j + suc i ≡ j + 1 + i = omega arith in
+      rw e (events-at n (j + 1) i (omega arith))
+
   pub look-turn : (n j a f : ℕ) → 0 < n → f ≡ edgeRecordAt t S j .event
       → look (edgesFrom t S n j) a
       ≡ when (eqb f a) (some (edgeRecordAt t S j .target)) (look (edgesFrom t S (n - 1) (j + 1)) a)
@@ -160,6 +168,12 @@ module _ (B : Book) where
   getD-firsts q l =
       let e : 0 + q ≡ q = omega arith in
       getD-listFrom (λ (i : ℕ). edgesBelow B i % 65536) mostStates 0 q 0 l ∙ rw e
+
+-- a search by the numbers of the definition
+pub lead-by : (t : List ℕ) (S : ℕ) (first : List ℕ) (q a n j : ℕ) {o : Option ℕ} → q < mostStates
+    → n ≡ length (outs (tableBook t S) q) → j ≡ getD first q 0 → o ≡ look (edgesFrom t S n j) a → o ≡ leadOf t S first q a
+unfolding leadOf
+lead-by t S first q a n j l e f h = rw (lt-ltb q mostStates l, ← e, ← f) h
 
 module _ (t : List ℕ) (S : ℕ) where
   -- the edges of the states below q, counted in the model and in the bytes

@@ -32,6 +32,14 @@ firstFault-none bad place (suc n) k e i l h =
     let s = passed (bad k) (place k) _ e in
     by-eq k i (λ q. rw q at (s .0)) (λ q. firstFault-none bad place n (k + 1) (s .1) i (omega arith) (omega arith))
 
+pub firstFault-fine : (bad : ℕ → Bool) (place : ℕ → ℕ) (n k : ℕ) → ((i : ℕ) → k ≤ i → i < k + n → bad i ≡ false)
+    → firstFault bad place n k ≡ none
+unfolding firstFault
+firstFault-fine bad place zero k h = refl
+firstFault-fine bad place (suc n) k h =
+    rw (h k (omega arith) (omega arith))
+    (firstFault-fine bad place n (k + 1) (λ i l u. h i (omega arith) (omega arith)))
+
 pub ownFaults-none : (bad : ℕ → ℕ → Bool) (t : List ℕ) (S n s : ℕ) → ownFaults bad t S n s ≡ none
     → (r : ℕ) → s ≤ r → r < s + n → (j : ℕ) → firstEdge t r ≤ j → j < firstEdge t r + stateRecordAt t r .count
     → bad r j ≡ false

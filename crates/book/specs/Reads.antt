@@ -4,9 +4,11 @@
 --   stateBreaks, edgeBreaks    does a record break the rule of that number
 --   stateBroken, edgeBroken    the same of a table's records; ownBroken, of an edge as one of its state
 --   ownFault                   the first of one state's edges at fault
+--   HoldsStates, HoldsEdges    the records of n states, of the edges below edge n, are among the bytes
+--   StatesRight, OwnRight      no rule is broken by the states; by one state's edges, and the array has these too
 --   EnteredAre                 an array that has 1 at each state with an edge into it
 --   numbered                   what a refusal's number says, 0 for none
-use Prim.Native.Nat.{ℕ, _-_, _<_}
+use Prim.Native.Nat.{ℕ, _+_, _-_, _≤_, _<_}
 use mathlib.Core.List.{List}
 use mathlib.Core.Bool.{Bool, not}
 use mathlib.Core.Option.{Option, none, some}
@@ -15,9 +17,9 @@ use lib.ListN.{length, getD}
 use lib.Dec.{eqb}
 use Rattle.meaning.specs.Choice.{when}
 use Rattle.meaning.specs.Answer.{Answer, refused}
-use Rattle.book.specs.Form.{mostStates, edgePlace, stateRecordAt, edgeRecordAt}
+use Rattle.book.specs.Form.{mostStates, statePlace, edgePlace, stateRecordAt, edgeRecordAt}
 use Rattle.book.specs.Model.{firstEdge}
-use Rattle.book.specs.Rules.{firstFault, spareRight, notAbove, astray, entered, unentered, deadEnd}
+use Rattle.book.specs.Rules.{firstFault, stateFault, spareRight, notAbove, astray, entered, unentered, deadEnd}
 use Rattle.book.specs.declared.StateRecord.{StateRecord}
 use Rattle.book.specs.declared.EdgeRecord.{EdgeRecord}
 use Rattle.book.specs.declared.Fault.{Fault}
@@ -63,6 +65,19 @@ ownFault number t S s first count = firstFault (edgeBroken number t S first s) (
 pub record EnteredAre (t : List ℕ) (S n : ℕ) (r : List ℕ) : Type 0 where
   pub size : length r ≡ mostStates
   pub is : (s : ℕ) → s < mostStates → getD r s 0 ≡ when (entered t S n s) 1 0
+
+abbrev pub HoldsStates : List ℕ → ℕ → Type 0
+HoldsStates t n = statePlace n ≤ length t
+
+abbrev pub HoldsEdges : List ℕ → ℕ → ℕ → Type 0
+HoldsEdges t S n = edgePlace S n ≤ length t
+
+abbrev pub StatesRight : List ℕ → ℕ → ℕ → Type 0
+StatesRight t S E = (number : ℕ) → stateFault (stateBroken number t S E) S ≡ none
+
+pub record OwnRight (t : List ℕ) (S s first count : ℕ) (r : List ℕ) : Type 0 where
+  pub none-at : (number : ℕ) → ownFault number t S s first count ≡ none
+  pub entered : EnteredAre t S (first + count) r
 
 -- a refusal's number, 0 for none, and what is judged next
 abbrev pub numbered : ℕ → Answer → Answer

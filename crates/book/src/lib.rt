@@ -1,10 +1,11 @@
 // A book is checked, refusals 1 to 13 in their order; and what the compile asks of a book.
 ghost use mathlib.Core.Path.{_≡_};
-ghost use Prim.Native.Nat.{_+_, _-_, _≤_};
+ghost use mathlib.Core.Bool.{true, false};
+ghost use Prim.Native.Nat.{ℕ, _+_, _-_, _≤_, _<_, min};
 ghost use lib.ListN.{length};
 ghost use Rattle.meaning.specs.Book.{look, outs, marks};
 ghost use Rattle.meaning.specs.Answer.{Answer, accepted, judged};
-ghost use Rattle.wire.specs.Little.{NumberIs};
+ghost use Rattle.wire.specs.Little.{NumberIs, le16At};
 ghost use Rattle.book.specs.Form.{trailerAt, trailerOf, lettersRight, tableAt};
 ghost use Rattle.book.specs.Form.{stateRecordAt, edgeRecordAt};
 ghost use Rattle.book.specs.Model.{firstEdge, edgesFrom, tableBook, firstsOf, RiseFrom, Rising, ledTo, leadOf};
@@ -12,6 +13,7 @@ ghost use Rattle.book.specs.Rules.{stateFault, edgeFault, spareFault, sp
 ghost use Rattle.book.specs.Rules.{trailerRules, tableRules, checkBook, told};
 ghost use Rattle.book.specs.Reads.{StateIs, EdgeIs, placed, numbered, stateBreaks, edgeBreaks};
 ghost use Rattle.book.specs.Reads.{stateBroken, ownBroken, ownFault, EnteredAre};
+ghost use Rattle.book.specs.Reads.{HoldsStates, HoldsEdges, StatesRight, OwnRight};
 
 pub const SB: [u8; 2] = *b"SB";
 
@@ -104,6 +106,9 @@ pub fn table_at(book: &[u8]) -> usize
 pub fn state_at(table: &[u8], s: usize) -> StateRecord
     ensures { λ r. ⌜ StateIs (stateRecordAt (now (table .entry)) s) r ⌝ }
 {
+    if s < table.len() / 4 {
+        return held_state(table, s);
+    }
     if s < FAR {
         let at = 4 * s;
         StateRecord {
@@ -124,6 +129,9 @@ pub fn state_at(table: &[u8], s: usize) -> StateRecord
 pub fn edge_at(table: &[u8], states: usize, j: usize) -> EdgeRecord
     ensures { λ r. ⌜ EdgeIs (edgeRecordAt (now (table .entry)) states j) r ⌝ }
 {
+    if j < less(table.len() / 4, states) {
+        return held_edge(table, states, j);
+    }
     if j < less(FAR, states) {
         let at = 4 * states + 4 * j;
         EdgeRecord {
@@ -158,6 +166,45 @@ pub fn target_at(table: &[u8], states: usize, j: usize) -> usize
         wire::le16(table, 4 * states + 4 * j + 2)
     } else {
         0
+    }
+}
+
+// ---- the same for records that are among the bytes, read without a test
+
+fn wide8(x: u8) -> usize
+    ensures { λ r. ⌜ NumberIs x 256 r ⌝ }
+{
+    x as usize
+}
+
+fn held16(table: &[u8], at: usize) -> usize
+    requires { ⌜ at + 1 < length (now table) ⌝ }
+    ensures { λ r. ⌜ NumberIs (le16At (now (table .entry)) at) 65536 r ⌝ }
+{
+    wide8(table[at]) + 256 * wide8(table[at + 1])
+}
+
+fn held_state(table: &[u8], s: usize) -> StateRecord
+    requires { ⌜ HoldsStates (now table) (s + 1) ⌝ }
+    ensures { λ r. ⌜ StateIs (stateRecordAt (now (table .entry)) s) r ⌝ }
+{
+    let at = 4 * s;
+    StateRecord {
+        mark: wide8(table[at]),
+        spare: wide8(table[at + 1]),
+        count: held16(table, at + 2),
+    }
+}
+
+fn held_edge(table: &[u8], states: usize, j: usize) -> EdgeRecord
+    requires { ⌜ HoldsEdges (now table) states (j + 1) ⌝ }
+    ensures { λ r. ⌜ EdgeIs (edgeRecordAt (now (table .entry)) states j) r ⌝ }
+{
+    let at = 4 * states + 4 * j;
+    EdgeRecord {
+        event: wide8(table[at]),
+        spare: wide8(table[at + 1]),
+        target: held16(table, at + 2),
     }
 }
 
@@ -370,6 +417,118 @@ fn entered(table: &[u8], states: usize, edges: usize) -> [u8; 512]
     r
 }
 
+// ---- refusals 7 to 13 at once: an accepted book is read by these alone
+
+// State s, or edge j of it, breaks no rule.
+fn state_right(s: usize, x: StateRecord, edge_in: bool) -> bool
+    ensures { λ r. ⌜ (r ≡ true → (number : ℕ) → stateBreaks number s x edge_in ≡ false) ⌝ }
+{
+    if state_breaks(7, s, x, edge_in) {
+        return false;
+    }
+    if state_breaks(12, s, x, edge_in) {
+        return false;
+    }
+    !state_breaks(13, s, x, edge_in)
+}
+
+fn edge_right(states: usize, s: usize, first: usize, j: usize, e: EdgeRecord, before: usize) -> bool
+    ensures { λ r. ⌜ (r ≡ true → (number : ℕ) → edgeBreaks number states s first j e before ≡ false) ⌝ }
+{
+    if edge_breaks(7, states, s, first, j, e, before) {
+        return false;
+    }
+    if edge_breaks(9, states, s, first, j, e, before) {
+        return false;
+    }
+    !edge_breaks(10, states, s, first, j, e, before)
+}
+
+// The states break no rule.
+fn states_right(table: &[u8], states: usize, edges: usize, entered: &[u8; 512]) -> bool
+    requires { ⌜
+        (states ≤ 512) × HoldsStates (now table) states × EnteredAre (now table) states edges (now entered)
+        ⌝ }
+    ensures { λ r. ⌜ (r ≡ true → StatesRight (now (table .entry)) states edges) ⌝ }
+{
+    let mut s = 0;
+    let mut left = states;
+    while 0 < left {
+        let x = held_state(table, s);
+        if state_right(s, x, entered[s] != 0) {} else {
+            return false;
+        }
+        s += 1;
+        left -= 1;
+    }
+    true
+}
+
+// One state's edges, `count` from edge `first` on, break no rule, and the states that they lead into are noted.
+fn own_right(
+    table: &[u8],
+    states: usize,
+    s: usize,
+    first: usize,
+    count: usize,
+    entered: &mut [u8; 512],
+) -> bool
+    requires { ⌜
+        (states ≤ 512) × (first + count ≤ 2048) × HoldsEdges (now table) states (first + count)
+        × EnteredAre (now table) states first (now entered)
+        ⌝ }
+    ensures { λ r. ⌜ (r ≡ true → OwnRight (now (table .entry)) states s first count (now (entered .exit))) ⌝ }
+{
+    let mut j = first;
+    let mut before = 0;
+    let mut left = count;
+    while 0 < left {
+        let e = held_edge(table, states, j);
+        if edge_right(states, s, first, j, e, before) {} else {
+            return false;
+        }
+        let target = e.target;
+        entered[target] = 1;
+        j += 1;
+        before = e.event;
+        left -= 1;
+    }
+    true
+}
+
+// The table breaks no rule.
+fn table_right(table: &[u8], states: usize, edges: usize) -> bool
+    requires { ⌜ (0 < states) × (states ≤ 512) × (edges ≤ 2048) × HoldsEdges (now table) states edges ⌝ }
+    ensures { λ r. ⌜
+        (r ≡ true → (x : Answer) → judged (tableRules (now (table .entry)) states edges) x ≡ x)
+        ⌝ }
+{
+    let mut entered = [0u8; 512];
+    let mut s = 0;
+    let mut first = 0;
+    let mut left = states;
+    while 0 < left {
+        let x = held_state(table, s);
+        if edges - first < x.count {
+            return false;
+        }
+        if own_right(table, states, s, first, x.count, &mut entered) {} else {
+            return false;
+        }
+        s += 1;
+        first += x.count;
+        left -= 1;
+    }
+    if first != edges {
+        return false;
+    }
+    let start = held_state(table, 0);
+    if start.mark != 0 {
+        return false;
+    }
+    states_right(table, states, edges, &entered)
+}
+
 // ---- the check
 
 fn refused(number: u32, place: u32) -> Checked
@@ -424,8 +583,13 @@ pub fn check_book(book: &[u8]) -> Checked
     if number != 0 {
         return refused(number, 0);
     }
+    let states = t.states;
+    let edges = t.edges;
     let at = table_at(book);
-    check_table(&book[at..], t.states, t.edges)
+    if table_right(&book[at..], states, edges) {
+        return Checked::Fine { states, edges };
+    }
+    check_table(&book[at..], states, edges)
 }
 
 // ---- what the compile asks of a book: of its state table, which starts at table_at
@@ -488,21 +652,53 @@ fn seek(table: &[u8], states: usize, first: usize, count: usize, event: usize) -
     Found::Nothing
 }
 
-// The same where the events rise, by halving.
-fn halve(table: &[u8], states: usize, first: usize, count: usize, event: usize) -> Found
-    requires { ⌜ (first + count ≤ 1000000000) × RiseFrom (now table) states count first ⌝ }
+// The same where these edges are among the bytes.
+fn seek_held(table: &[u8], states: usize, first: usize, count: usize, event: usize) -> Found
+    requires { ⌜ (first + count ≤ 1000000000) × HoldsEdges (now table) states (first + count) ⌝ }
     ensures { λ r. ⌜ ledTo r ≡ look (edgesFrom (now (table .entry)) states count first) event ⌝ }
 {
     let mut j = first;
     let mut left = count;
     while 0 < left {
-        let half = left / 2;
-        let found = event_at(table, states, j + half);
-        if found == event {
-            let q = target_at(table, states, j + half);
-            return Found::To(q);
+        let e = held_edge(table, states, j);
+        if e.event == event {
+            return Found::To(e.target);
         }
-        if found < event {
+        j += 1;
+        left -= 1;
+    }
+    Found::Nothing
+}
+
+// How many of `count` bytes that rise can be at most the event.
+fn high(event: usize, count: usize) -> usize
+    ensures { λ r. ⌜ r ≡ min (event + 1) count ⌝ }
+{
+    if event < count { event + 1 } else { count }
+}
+
+// The same where the events rise, by halving. Among `count` bytes that rise an event stands from event + count - 256
+// to event.
+fn halve(table: &[u8], states: usize, first: usize, count: usize, event: usize) -> Found
+    requires { ⌜
+        (first + count ≤ 1000000000) × HoldsEdges (now table) states (first + count)
+        × RiseFrom (now table) states count first
+        ⌝ }
+    ensures { λ r. ⌜ ledTo r ≡ look (edgesFrom (now (table .entry)) states count first) event ⌝ }
+{
+    if 255 < event {
+        return Found::Nothing;
+    }
+    let low = less(event + count, 256);
+    let mut j = first + low;
+    let mut left = less(high(event, count), low);
+    while 0 < left {
+        let half = left / 2;
+        let e = held_edge(table, states, j + half);
+        if e.event == event {
+            return Found::To(e.target);
+        }
+        if e.event < event {
             j += half + 1;
             left -= half + 1;
         } else {
@@ -531,7 +727,8 @@ pub fn lead(table: &[u8], states: usize, first: &[u16; 512], q: usize, event: us
     }
 }
 
-// The same for a state whose events rise, as they do in an accepted book: many edges are searched by halving.
+// The same for a state whose events rise, as they do in an accepted book: edges that are among the bytes, as its edges
+// are, are read without a test, and many are searched by halving.
 pub fn lead_rising(table: &[u8], states: usize, first: &[u16; 512], q: usize, event: usize) -> Found
     requires { ⌜ Rising (now table) states (now first) q ⌝ }
     ensures { λ r. ⌜ ledTo r ≡ leadOf (now (table .entry)) states (now (first .entry)) q event ⌝ }
@@ -539,8 +736,11 @@ pub fn lead_rising(table: &[u8], states: usize, first: &[u16; 512], q: usize, ev
     if q < 512 {
         let count = count_of(table, states, q);
         let from = wide(first[q]);
-        if count <= 8 {
+        if less(table.len() / 4, states) <= from + count {
             return seek(table, states, from, count, event);
+        }
+        if count <= 8 {
+            return seek_held(table, states, from, count, event);
         }
         halve(table, states, from, count, event)
     } else {

@@ -1,6 +1,9 @@
--- `check_book` meets its contract: the trailer's number decides, or else the table does (`Verdict`). Assumes nothing.
-use mathlib.Core.Path.{ap, _∙_}
+-- `check_book` meets its contract: the trailer's number decides, or else the table does (`Verdict`): at once where it
+-- breaks no rule, or else row by row. Assumes nothing.
+use Prim.Native.Nat.{_≤_}
+use mathlib.Core.Path.{sym, ap, _∙_}
 use native.Mathlib.Omega.{arith}
+use lib.ListN.{length}
 use borrow.Author.Needs.{needs}
 use Rattle.book.specs.Rules.{told}
 use Rattle.book.proofs.Judged.{Verdict, verdict, table-part, table-inside}
@@ -15,6 +18,10 @@ judged-here : (c : tie.After-trailer-number)
 judged-here c =
     verdict (start c .args .book .now) _ (c .before .before .trailer-of .ensures) (c .before .has-letters .ensures)
     (c .trailer-number .ensures)
+
+-- the table starts among the bytes
+inside : (c : tie.After-table-at) → c .table-at .result ≤ length (start (c .before .before) .args .book .now)
+inside c = omega (arith, c .table-at .ensures, table-inside (start (c .before .before) .args .book .now))
 
 trailer-of-requires : tie.Need-trailer-of-requires
 trailer-of-requires c κs = search needs
@@ -34,25 +41,51 @@ returns c = ap told (c .refused .ensures) ∙ judged-here (c .before .before) .r
 table-at-requires : tie.Need-table-at-requires
 table-at-requires c κs = search needs
 
+sub-table-right : tie.Need-sub-table-right
+sub-table-right c = inside c
+
+part-table-right-start : tie.Need-part-table-right-start
+part-table-right-start c = inside c
+
+part-table-right-end : tie.Need-part-table-right-end
+part-table-right-end c = search needs
+
+table-right-requires : tie.Need-table-right-requires
+table-right-requires c κs =
+    let n = c .before .before .before in
+    let z = c .before .before .if1 .left in
+    let r = judged-here n .right z in
+    let part = table-part (start n .args .book .now) _ (c .before .table-at .ensures) in
+    (r .some-state, r .states, r .edges, judged-here n .holds z _ part)
+
+returns-2 : tie.Need-returns-2
+returns-2 c =
+    let p = c .before .before .before in
+    let n = p .before .before in
+    judged-here n .passes (p .before .if1 .left) _ _ (table-part (start n .args .book .now) _ (p .table-at .ensures))
+    (sym (c .before .table-right .ensures (c .if2 .taken) _))
+
 sub-check-table : tie.Need-sub-check-table
-sub-check-table c = omega (arith, c .table-at .ensures, table-inside (start (c .before .before) .args .book .now))
+sub-check-table c = inside (c .before .before .before)
 
 part-check-table-start : tie.Need-part-check-table-start
-part-check-table-start c = omega (arith, c .table-at .ensures, table-inside (start (c .before .before) .args .book .now))
+part-check-table-start c = inside (c .before .before .before)
 
 part-check-table-end : tie.Need-part-check-table-end
 part-check-table-end c = search needs
 
 check-table-requires : tie.Need-check-table-requires
 check-table-requires c κs =
-    let r = judged-here (c .before .before .before) .right (c .before .before .if1 .left) in
+    let p = c .before .before .before .before in
+    let r = judged-here (p .before .before) .right (p .before .if1 .left) in
     (r .states, r .edges)
 
-returns-2 : tie.Need-returns-2
-returns-2 c =
-    let d = c .before .before .before .before in
-    judged-here d .passes (c .before .before .before .if1 .left) _ _
-    (table-part (start d .args .book .now) _ (c .before .before .table-at .ensures)) (c .check-table .ensures)
+returns-3 : tie.Need-returns-3
+returns-3 c =
+    let p = c .before .before .before .before .before in
+    let n = p .before .before in
+    judged-here n .passes (p .before .if1 .left) _ _ (table-part (start n .args .book .now) _ (p .table-at .ensures))
+    (c .check-table .ensures)
 
 pub check-book-spec : {M : Type 1} → statement M
 check-book-spec =
@@ -64,8 +97,13 @@ check-book-spec =
     refused-requires
     returns
     table-at-requires
+    sub-table-right
+    part-table-right-start
+    part-table-right-end
+    table-right-requires
+    returns-2
     sub-check-table
     part-check-table-start
     part-check-table-end
     check-table-requires
-    returns-2)
+    returns-3)

@@ -10,6 +10,15 @@ use Rattle.book.proofs.edge_at.Tie as tie
 less-requires : tie.Need-less-requires
 less-requires c κs = search needs
 
+held-edge-requires : tie.Need-held-edge-requires
+held-edge-requires c κs = search needs
+
+returns : tie.Need-returns
+returns c = search needs
+
+less-requires-2 : tie.Need-less-requires-2
+less-requires-2 c κs = search needs
+
 mul-at : tie.Need-mul-at
 mul-at c = search needs
 
@@ -34,9 +43,9 @@ add-le16 c = search needs
 le16-requires : tie.Need-le16-requires
 le16-requires c κs = search needs
 
-returns : tie.Need-returns
+returns-2 : tie.Need-returns-2
 unfolding edgeRecordAt
-returns c =
+returns-2 c =
     let m = c .before .before .byte-at .ensures in
     let n = c .le16 .ensures in
     record {
@@ -45,9 +54,9 @@ returns c =
       target = n .small;
     }
 
-returns-2 : tie.Need-returns-2
-returns-2 c =
-    let a = c .before .before .before .args in
+returns-3 : tie.Need-returns-3
+returns-3 c =
+    let a = c .before .before .before .before .before .args in
     record { is = edge-past (a .table .now) (a .states) (a .j) (omega arith); event = lit< tt; target = lit< tt }
 
 pub edge-at-spec : {M : Type 1} → statement M
@@ -55,6 +64,9 @@ edge-at-spec =
     tie.close
     (tie.spec
     less-requires
+    held-edge-requires
+    returns
+    less-requires-2
     mul-at
     mul-at-2
     add-at
@@ -63,5 +75,5 @@ edge-at-spec =
     byte-at-requires-2
     add-le16
     le16-requires
-    returns
-    returns-2)
+    returns-2
+    returns-3)

@@ -7,6 +7,12 @@ use Rattle.book.proofs.Read.{state-past}
 use Rattle.book.proofs.state_at.Statement.{statement}
 use Rattle.book.proofs.state_at.Tie as tie
 
+held-state-requires : tie.Need-held-state-requires
+held-state-requires c κs = search needs
+
+returns : tie.Need-returns
+returns c = search needs
+
 mul-at : tie.Need-mul-at
 mul-at c = search needs
 
@@ -25,9 +31,9 @@ add-le16 c = search needs
 le16-requires : tie.Need-le16-requires
 le16-requires c κs = search needs
 
-returns : tie.Need-returns
+returns-2 : tie.Need-returns-2
 unfolding stateRecordAt
-returns c =
+returns-2 c =
     let m = c .before .before .byte-at .ensures in
     let n = c .le16 .ensures in
     record {
@@ -36,20 +42,22 @@ returns c =
       count = n .small;
     }
 
-returns-2 : tie.Need-returns-2
-returns-2 c =
-    let a = c .before .before .args in
+returns-3 : tie.Need-returns-3
+returns-3 c =
+    let a = c .before .before .before .args in
     record { is = state-past (a .table .now) (a .s) (omega arith); mark = lit< tt; count = lit< tt }
 
 pub state-at-spec : {M : Type 1} → statement M
 state-at-spec =
     tie.close
     (tie.spec
+    held-state-requires
+    returns
     mul-at
     byte-at-requires
     add-byte-at
     byte-at-requires-2
     add-le16
     le16-requires
-    returns
-    returns-2)
+    returns-2
+    returns-3)
