@@ -92,15 +92,32 @@ module _ (xs : List ℕ) (q t : ℕ) (F : Facts xs q t) where
       (listBytes (recordsAt N e (nextLink xs q t F l)))
       (let w : 8 * (k + 1) ≡ 8 * k + 8 = omega arith in w)
 
+  -- the entry of a place with an end in the place of its link is its record
+  pub record-small : (l r e : ℕ) → PackedAt xs l r → e < 4294967296 → r - r % 65536 + e < 72057594037927936
+  record-small l r e K b = let m = K .mark in let s = K .small in let g = K .gap in omega arith
+
+  record-parts : (l r e : ℕ) → PackedAt xs l r → e < 4294967296
+      → ((r - r % 65536 + e) % 4294967296 ≡ e) × ((r - r % 65536 + e) / 4294967296 % 65536 ≡ N .level l)
+      × ((r - r % 65536 + e) / 281474976710656 ≡ N .mark l)
+  record-parts l r e K b =
+      let g = K .gap in
+      let n = K .level in
+      let m = K .mark in
+      (omega arith, omega arith, omega arith)
+
   pub write-turn : (e p k₀ k l r : ℕ) (out₀ out out′ : List ℕ) → Writing xs q e p out₀ k₀ out k l → l ≢ 0
-      → PackedAt xs l r
-      → length out′ ≡ length out → out′ ≡ sets out (8 * k) (recordBytes e (r / 65536 % 65536) (r / 4294967296 % 256))
+      → PackedAt xs l r → e < 4294967296 → length out′ ≡ length out
+      → out′ ≡ sets out (8 * k)
+      (recordBytes ((r - r % 65536 + e) % 4294967296) ((r - r % 65536 + e) / 4294967296 % 65536)
+      ((r - r % 65536 + e) / 281474976710656))
       → Writing xs q e p out₀ k₀ out′ (k + 1) (r % 65536)
-  write-turn e p k₀ k l r out₀ out out′ W nz K len put =
+  write-turn e p k₀ k l r out₀ out out′ W nz K small len put =
       let C = W .counting in
       let b = W .before in
       let z : k + 1 - k₀ ≡ k - k₀ + 1 = omega arith in
-      let here : out′ ≡ sets out (8 * k) (recordBytes e (N .level l) (N .mark l)) = rw (← K .level, ← K .mark) put in
+      let s = record-parts l r e K small in
+      let here : out′ ≡ sets out (8 * k) (recordBytes e (N .level l) (N .mark l)) =
+      put ∙ (rw (s .0, s .1, s .2)) in
       record {
         kept = len ∙ W .kept;
         counting = rw z (count-turn p (k - k₀) l r C nz K);

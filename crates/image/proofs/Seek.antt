@@ -2,22 +2,39 @@
 -- cut; where events rise, the search is halved, and an event stands in a window.
 --   seek-step, seek-end, seek-found     one step; none left; what is found stands among the edges, with the event
 --   skip, cut                           edges that do not match
---   rising-part, turn-up, turn-down     where events rise: a part of them; one turn of the halving
+--   half-fits, half-whole, half-none    how far the halving reaches, computed
+--   rising-part, turn-either            where events rise: a part of them; one turn of the halving
 --   window, no-window                   an event among n rising bytes has an index from event + n - 256 to event
 -- Assumes nothing.
 use mathlib.Core.Path.{_≡_, refl, sym, _∙_, subst}
-use mathlib.Core.Logic.{_≢_, ⊎-elim}
+use mathlib.Core.Logic.{_≢_, _⊎_, inl, inr, ⊎-elim}
 use mathlib.Core.Option.{Option, none, some}
-use Prim.Native.Nat.{ℕ, zero, suc, _+_, _-_, _<_, _≤_, min}
-use native.Mathlib.Nat.{eq-or-lt-of-le, le-trans}
+use Prim.Native.Nat.{ℕ, zero, suc, _+_, _*_, _-_, _/_, _<_, _≤_, min}
+use native.Mathlib.Nat.{eq-or-lt-of-le, le-trans, mul-le-mul-left}
 use native.Mathlib.Omega.{arith}
 use lib.Dec.{eqb}
 use borrow.Author.Tests.{ne-eqb, eqb-true}
 use Rattle.meaning.specs.Choice.{when}
-use Rattle.meaning.proofs.Cases.{by-bool, none-some}
+use Rattle.meaning.proofs.Cases.{by-bool, by-order, none-some}
 use Rattle.image.specs.Form.{EdgeRecord}
 use Rattle.image.specs.Questions.{seek}
 use Rattle.image.specs.Held.{Rising}
+
+-- a half of h edges whose event is e, or none of it
+pub half-fits : (h e a : ℕ) → a < 256 → h * ((a + 256 - e) / 256) ≤ h
+half-fits h e a b =
+    let o : (a + 256 - e) / 256 ≤ 1 = omega arith in
+    let m : h * ((a + 256 - e) / 256) ≤ h * 1 = mul-le-mul-left h o in
+    omega arith
+
+pub half-whole : (h e a : ℕ) → a < 256 → e ≤ a → h * ((a + 256 - e) / 256) ≡ h
+half-whole h e a b l = let o : (a + 256 - e) / 256 ≡ 1 = omega arith in rw o (omega arith)
+
+pub half-none : (h e a : ℕ) → e < 256 → a < e → h * ((a + 256 - e) / 256) ≡ 0
+half-none h e a b l = let o : (a + 256 - e) / 256 ≡ 0 = omega arith in rw o (omega arith)
+
+le-or-lt : (m n : ℕ) → (m ≤ n) ⊎ (n < m)
+le-or-lt m n = by-order m n (λ l. inl (omega arith)) (λ e. inl (omega arith)) (λ l. inr l)
 
 module _ (E : ℕ → EdgeRecord) where
   pub seek-step : (a left j : ℕ) → 0 < left
@@ -102,14 +119,29 @@ module _ (E : ℕ → EdgeRecord) where
           (eq-or-lt-of-le (le-trans k u))
 
   -- one turn of the halving, with h = n / 2
-  pub turn-up : (a h n j k : ℕ) → Rising E j n → h < n → E (j + h) .event ≤ a → k ≡ j + h
+  turn-up : (a h n j k : ℕ) → Rising E j n → h < n → E (j + h) .event ≤ a → k ≡ j + h
       → Rising E k (n - h) × (seek E a n j ≡ seek E a (n - h) k)
   turn-up a h n j k up l le e = rw e (rising-from h n j (omega arith) up, upper a h n j up l le)
 
-  pub turn-down : (a h n j k : ℕ) → Rising E j n → h + h ≤ n → h < n → a < E (j + h) .event → k ≡ j
+  turn-down : (a h n j k : ℕ) → Rising E j n → h + h ≤ n → h < n → a < E (j + h) .event → k ≡ j
       → Rising E k (n - h) × (seek E a n j ≡ seek E a (n - h) k)
   turn-down a h n j k up l u lt e = rw e
       (rising-cut (n - h) n j (omega arith) up, lower a h (n - h) n j up (omega arith) (omega arith) u lt)
+
+  -- with e the event at h
+  pub turn-either : (a h n j k e : ℕ) → Rising E j n → h + h ≤ n → h < n → e ≡ E (j + h) .event → (e ≤ a → k ≡ j + h)
+      → (a < e → k ≡ j) → (k + (n - h) ≤ j + n) × Rising E k (n - h) × (seek E a n j ≡ seek E a (n - h) k)
+  turn-either a h n j k e up l u is reach stay =
+      ⊎-elim
+      (λ le.
+      let f = reach le in
+      let t = turn-up a h n j k up u (omega arith) f in
+      (omega arith, t .0, t .1))
+      (λ lt.
+      let f = stay lt in
+      let t = turn-down a h n j k up l u (omega arith) f in
+      (omega arith, t .0, t .1))
+      (le-or-lt e a)
 
   -- d edges on, the event is greater by d at least
   spread : (n j : ℕ) → Rising E j n → (d i : ℕ) → i + d < n → E (j + i) .event + d ≤ E (j + (i + d)) .event

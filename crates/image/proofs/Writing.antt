@@ -1,12 +1,13 @@
 -- The bytes of records, one after the other.
 --   sets-eight          eight bytes stored one by one
+--   record-bytes        the eight bytes of a number are a record's
 --   length-listBytes    eight bytes a record
 --   listBytes-cons, listBytes-append    a record, a list, and more after it
 --   sets-past           what stands past the bytes written is as it was
 -- Assumes nothing.
 use mathlib.Core.Path.{_≡_, refl, ap, _∙_}
 use mathlib.Core.List.{List, [], _∷_, _++_}
-use Prim.Native.Nat.{ℕ, suc, _+_, _*_, _≤_}
+use Prim.Native.Nat.{ℕ, suc, _+_, _*_, _/_, _%_, _≤_, _<_}
 use native.Mathlib.Omega.{arith}
 use lib.ListN.{length, getD, set}
 use lib.Seq.{sets, getD-set-other}
@@ -27,6 +28,54 @@ sets-eight d at a b c e f g h i =
     let e6 : at + 6 ≡ suc (suc (suc (suc (suc (suc at))))) = omega arith in
     let e7 : at + 7 ≡ suc (suc (suc (suc (suc (suc (suc at)))))) = omega arith in
     rw (e1, e2, e3, e4, e5, e6, e7)
+
+-- the lowest byte of a number, and the next, are those of its lower half
+lowest : (m : ℕ) → m % 256 ≡ m % 65536 % 256
+lowest m = omega arith
+
+second : (m : ℕ) → m / 256 % 256 ≡ m % 65536 / 256 % 256
+second m =
+    let e : m / 256 ≡ 256 * (m / 65536) + m % 65536 / 256 = omega arith in
+    omega arith
+
+lower : (n : ℕ) → n % 4294967296 % 65536 ≡ n % 65536
+lower n = omega arith
+
+upper : (n : ℕ) → n % 4294967296 / 65536 % 65536 ≡ n / 65536 % 65536
+upper n =
+    let q : n / 65536 / 65536 ≡ n / 4294967296 = omega arith in
+    let s : n % 4294967296 ≡ 65536 * (n / 65536 % 65536) + n % 65536 = omega arith in
+    let h : n % 4294967296 / 65536 ≡ n / 65536 % 65536 = omega arith in
+    omega arith
+
+fourth : (n : ℕ) → n / 16777216 ≡ n / 65536 / 256
+fourth n = omega arith
+
+sixth : (n : ℕ) → n / 1099511627776 ≡ n / 4294967296 / 256
+sixth n = omega arith
+
+-- a record as one number
+pub record-bytes : (n : ℕ) → n < 72057594037927936
+    → n % 256 ∷ n / 256 % 256 ∷ n / 65536 % 256 ∷ n / 16777216 % 256 ∷ n / 4294967296 % 256 ∷ n / 1099511627776 % 256
+    ∷ n / 281474976710656 % 256 ∷ n / 72057594037927936 ∷ []
+    ≡ recordBytes (n % 4294967296) (n / 4294967296 % 65536) (n / 281474976710656)
+record-bytes n b =
+    let m : n / 281474976710656 % 256 ≡ n / 281474976710656 = omega arith in
+    let z : n / 72057594037927936 ≡ 0 = omega arith in
+    rw (
+      lower n,
+      upper n,
+      fourth n,
+      sixth n,
+      m,
+      z,
+      lowest n,
+      second n,
+      lowest (n / 65536),
+      second (n / 65536),
+      lowest (n / 4294967296),
+      second (n / 4294967296),
+    )
 
 pub listBytes-cons : (r : Record) (rs : List Record)
     → listBytes (r ∷ rs) ≡ recordBytes (r .end) (r .length) (r .mark) ++ listBytes rs

@@ -10,22 +10,30 @@
 --   PackedAt, IsPacked  a table of what is written of a place that reports, and of the next one
 --   MovedIs             one event of the walk
 --   ranOver, reports    the run; how many records a place has
+--   leftAt              what is left of a run where it stands
+--   toldAt, memoryAt    what it answers from there, and the buffer that it leaves
+--   Stands, Ready       where a run can stand; what a walk on from there asks for
+--   Carried, CarriedTo  from one stand to the next, what the run comes to is the same
 use mathlib.Core.Path.{_≡_}
 use mathlib.Core.Option.{Option, none, some}
 use mathlib.Core.List.{List}
+use mathlib.Core.Bool.{true, false}
 use mathlib.Core.Logic.{_≢_}
-use Prim.Native.Nat.{ℕ, _+_, _*_, _/_, _%_, _≤_, _<_}
-use lib.ListN.{length, getD}
+use Prim.Native.Nat.{ℕ, _+_, _*_, _-_, _/_, _%_, _≤_, _<_}
+use lib.ListN.{length, getD, drop}
+use lib.Seq.{sets}
 use lib.Dec.{eqb}
 use Rattle.meaning.specs.Choice.{when}
-use Rattle.meaning.specs.Answer.{accepted}
+use Rattle.meaning.specs.Answer.{Answer, accepted}
 use Rattle.meaning.specs.Questions.{Image}
 use Rattle.meaning.specs.Walk.{Stand, next}
 use Rattle.wire.specs.Record.{recordSize}
-use Rattle.meaning.specs.Records.{Outcome, recordsAt, run}
+use Rattle.meaning.specs.Records.{Outcome, stopped, recordsAt, run}
 use Rattle.image.specs.Questions.{questionsAt}
 use Rattle.image.specs.Form.{PlaceRecord, EdgeRecord, Trailer, form1, sizeOf, placeAt, edgeAt, trailerOf}
 use Rattle.image.specs.Rules.{placesFault, eventsFault, edgesFault, checkImage}
+use Rattle.image.specs.Calls.{listBytes}
+use Rattle.image.specs.declared.Going.{Going}
 use Rattle.image.specs.declared.Moved.{Moved}
 use Rattle.image.specs.declared.Found.{Found}
 use Rattle.image.specs.declared.Found.the-variants.{At, Nothing}
@@ -116,10 +124,13 @@ pub record Idle (root : List ℕ) (p a : ℕ) : Type 0 where
   pub here : p ≡ 0
   pub stays : getD root a 0 ≡ 0
 
+-- less the next link, the entry is the record but for its end
 pub record PackedAt (xs : List ℕ) (l r : ℕ) : Type 0 where
   pub next : r % 65536 ≡ placeAt form1 xs (placeAt form1 xs l .fallback) .link
-  pub level : r / 65536 % 65536 ≡ placeAt form1 xs l .level
-  pub mark : r / 4294967296 % 256 ≡ placeAt form1 xs l .mark
+  pub gap : r / 65536 % 65536 ≡ 0
+  pub level : r / 4294967296 % 65536 ≡ placeAt form1 xs l .level
+  pub mark : r / 281474976710656 ≡ placeAt form1 xs l .mark
+  pub small : placeAt form1 xs l .mark < 256
 
 abbrev pub IsPacked : List ℕ → ℕ → List ℕ → Type 0
 IsPacked xs q table = (l : ℕ) → l < q → PackedAt xs l (getD table l 0)
@@ -137,3 +148,40 @@ ranOver xs q base p log out = run (questionsAt form1 xs q) (length out / recordS
 -- the end of a record does not matter to their number
 abbrev pub reports : Image → ℕ → ℕ
 reports M p = length (recordsAt M 0 p)
+
+-- ---- a run on its way
+abbrev pub leftAt : Image → ℕ → ℕ → List ℕ → Going → Outcome
+leftAt M room base log g = run M (room - g .records) (base + g .taken) (g .place) (drop (g .taken) log)
+
+abbrev pub toldAt : Image → ℕ → ℕ → List ℕ → Going → Answer
+toldAt M room base log g =
+    let o = leftAt M room base log g in
+    accepted (g .taken + o .taken) (o .place) (g .records + length (o .records)) (g .steps + o .steps)
+
+abbrev pub memoryAt : Image → ℕ → ℕ → List ℕ → List ℕ → Going → List ℕ
+memoryAt M room base log out g = sets out (recordSize * g .records) (listBytes (leftAt M room base log g .records))
+
+pub record Stands (M : Image) (room base : ℕ) (log : List ℕ) (g : Going) : Type 0 where
+  pub taken : g .taken ≤ length log
+  pub below : g .place < M .count
+  pub fits : g .records ≤ room
+  pub few : g .steps ≤ 1024 * g .taken
+  pub over : g .full ≡ true → leftAt M room base log g ≡ stopped (g .place)
+
+pub record Ready (xs : List ℕ) (q : ℕ) (table : List ℕ) (room base : ℕ) (log out : List ℕ) (g : Going) : Type 0 where
+  pub image : Accepted xs q
+  pub packed : IsPacked xs q table
+  pub held : recordSize * room ≤ length out
+  pub short : base + length log < 4294967296
+  pub stands : Stands (questionsAt form1 xs q) room base log g
+
+pub record Carried (M : Image) (room base : ℕ) (log out : List ℕ) (g : Going) (out′ : List ℕ) (g′ : Going) : Type 0 where
+  pub kept : length out′ ≡ length out
+  pub stands : Stands M room base log g′
+  pub told : toldAt M room base log g′ ≡ toldAt M room base log g
+  pub memory : memoryAt M room base log out′ g′ ≡ memoryAt M room base log out g
+
+-- up to a number of events, or to where there is no room
+abbrev pub CarriedTo : Image → ℕ → ℕ → List ℕ → ℕ → List ℕ → Going → List ℕ → Going → Type 0
+CarriedTo M room base log until out g out′ g′ =
+    Carried M room base log out g out′ g′ × (g′ .full ≡ false → until ≤ g′ .taken)

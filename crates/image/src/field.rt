@@ -1,7 +1,7 @@
 // The numbers of records that are among the bytes, read without a test. Form 1's offsets stand here and in `total` alone.
 use crate::SM;
 ghost use mathlib.Core.Path.{_≡_};
-ghost use Prim.Native.Nat.{_+_, _*_, _≤_, _<_};
+ghost use Prim.Native.Nat.{_+_, _*_, _/_, _%_, _≤_, _<_};
 ghost use lib.ListN.{length};
 ghost use lib.Seq.{sets};
 ghost use Rattle.wire.specs.Little.{NumberIs, le16At};
@@ -172,18 +172,21 @@ pub(crate) fn edge_offset(q: usize, j: usize) -> u32
 
 // ---- a record of a run
 
-pub(crate) fn put_record(out: &mut [u8], at: usize, end: usize, level: usize, mark: u8)
-    requires { ⌜ at + 8 ≤ length (now out) ⌝ }
-    ensures { λ r. ⌜ now (out .exit) ≡ sets (now (out .entry)) at (recordBytes end level mark) ⌝ }
+// As one number, little-endian: the end, the length, the mark.
+pub(crate) fn put_record(out: &mut [u8], at: usize, number: usize)
+    requires { ⌜ (at + 8 ≤ length (now out)) × (number < 72057594037927936) ⌝ }
+    ensures { λ r. ⌜
+        now (out .exit)
+        ≡ sets (now (out .entry)) at
+        (recordBytes (number % 4294967296) (number / 4294967296 % 65536) (number / 281474976710656))
+        ⌝ }
 {
-    let low = end % 65536;
-    let high = end / 65536 % 65536;
-    out[at] = (low % 256) as u8;
-    out[at + 1] = (low / 256 % 256) as u8;
-    out[at + 2] = (high % 256) as u8;
-    out[at + 3] = (high / 256 % 256) as u8;
-    out[at + 4] = (level % 256) as u8;
-    out[at + 5] = (level / 256 % 256) as u8;
-    out[at + 6] = mark;
-    out[at + 7] = 0;
+    out[at] = (number % 256) as u8;
+    out[at + 1] = (number / 256 % 256) as u8;
+    out[at + 2] = (number / 65536 % 256) as u8;
+    out[at + 3] = (number / 16777216 % 256) as u8;
+    out[at + 4] = (number / 4294967296 % 256) as u8;
+    out[at + 5] = (number / 1099511627776 % 256) as u8;
+    out[at + 6] = (number / 281474976710656 % 256) as u8;
+    out[at + 7] = (number / 72057594037927936) as u8;
 }

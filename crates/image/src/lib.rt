@@ -11,6 +11,7 @@ mod field;
 mod lookup;
 mod over;
 mod questions;
+mod steps;
 mod total;
 
 // The last two bytes of an image.
@@ -76,6 +77,15 @@ enum Found {
 struct Moved {
     place: usize,
     steps: usize,
+}
+
+// Where a run stands, and whether it has no room for the next event's records.
+struct Going {
+    taken: usize,
+    place: usize,
+    records: usize,
+    steps: usize,
+    full: bool,
 }
 
 // Places and edges; or refused, 17 to 19.

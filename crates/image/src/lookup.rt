@@ -1,7 +1,7 @@
 // The edge of a place of an accepted image: linear up to 8 edges, above that a window and halving.
 use crate::field;
 ghost use mathlib.Core.Path.{_≡_};
-ghost use Prim.Native.Nat.{_+_, _-_, _<_, min};
+ghost use Prim.Native.Nat.{_+_, _-_, _≤_, _<_, min};
 ghost use Rattle.image.specs.Form.{form1, edgeAt};
 ghost use Rattle.image.specs.Questions.{seek, questionsAt};
 ghost use Rattle.image.specs.Held.{HoldsEdges, Rising, edgeOr, FoundIs, Accepted, edgesOf};
@@ -25,17 +25,26 @@ pub(crate) fn linear(image: &[u8], places: usize, event: usize, left: usize, j: 
     NONE
 }
 
+// How far a half reaches, or 0 where the event stands before it: computed, as no branch could be foretold.
+fn ahead(h: usize, found: usize, event: usize) -> usize
+    requires { ⌜ (found < 256) × (event < 256) ⌝ }
+    ensures { λ r. ⌜ (r ≤ h) × (found ≤ event → r ≡ h) × (event < found → r ≡ 0) ⌝ }
+{
+    h * ((event + 256 - found) / 256)
+}
+
 fn halved(image: &[u8], places: usize, event: usize, left: usize, j: usize) -> usize
-    requires { ⌜ HoldsEdges (now image) places j left × (0 < left) × Rising (edgeAt form1 (now image) places) j left ⌝ }
+    requires { ⌜
+        HoldsEdges (now image) places j left × (0 < left) × Rising (edgeAt form1 (now image) places) j left
+        × (event < 256)
+        ⌝ }
     ensures { λ r. ⌜ r ≡ edgeOr (seek (edgeAt form1 (now (image .entry)) places) event left j) ⌝ }
 {
     let mut left = left;
     let mut j = j;
     while 1 < left {
         let h = left / 2;
-        if field::edge_event(image, places, j + h) <= event {
-            j += h;
-        }
+        j += ahead(h, field::edge_event(image, places, j + h), event);
         left -= h;
     }
     if field::edge_event(image, places, j) == event {

@@ -1,8 +1,12 @@
 -- `image::field::put_record` meets its contract.
 -- Assumes nothing.
-use Rattle.image.proofs.Writing.{sets-eight}
+use Rattle.image.proofs.Writing.{sets-eight, record-bytes}
+use lib.Seq.{sets}
 use lib.ListN.{length-set}
 use native.Mathlib.Omega.{arith}
+use mathlib.Core.Path.{ap, _∙_}
+use mathlib.Core.List.{List}
+use Prim.Native.Nat.{ℕ}
 use borrow.Author.Needs.{needs}
 use Rattle.image.proofs.field.put_record.Statement.{statement}
 use Rattle.image.proofs.field.put_record.Tie as tie
@@ -58,11 +62,17 @@ add-out-5 c = search needs
 slice-write-out-6 : tie.Need-slice-write-out-6
 slice-write-out-6 c = simp length-set (omega arith)
 
+cast-out-7 : tie.Need-cast-out-7
+cast-out-7 c = search needs
+
 add-out-6 : tie.Need-add-out-6
 add-out-6 c = search needs
 
 slice-write-out-7 : tie.Need-slice-write-out-7
 slice-write-out-7 c = simp length-set (omega arith)
+
+cast-out-8 : tie.Need-cast-out-8
+cast-out-8 c = search needs
 
 add-out-7 : tie.Need-add-out-7
 add-out-7 c = search needs
@@ -71,12 +81,12 @@ slice-write-out-8 : tie.Need-slice-write-out-8
 slice-write-out-8 c = simp length-set (omega arith)
 
 same-length : tie.Need-same-length
-same-length c = simp length-set
+same-length c = search needs
 
 returns : tie.Need-returns
 returns c =
-    let s = c in
-    sets-eight (s .args .out .now) (s .args .at) _ _ _ _ _ _ _ _
+    sets-eight (c .args .out .now) (c .args .at) _ _ _ _ _ _ _ _
+    ∙ ap (λ (bs : List ℕ). sets (c .args .out .now) (c .args .at) bs) (record-bytes (c .args .number) (c .pre .1))
 
 pub put-record-spec : {M : Type 1} → statement M
 put-record-spec =
@@ -99,8 +109,10 @@ put-record-spec =
     cast-out-6
     add-out-5
     slice-write-out-6
+    cast-out-7
     add-out-6
     slice-write-out-7
+    cast-out-8
     add-out-7
     slice-write-out-8
     same-length

@@ -1,13 +1,12 @@
 -- `image::lookup::halved` meets its contract. The loop carries that the edges left are searched and rise: a turn of
 -- `Seek`.
 -- Assumes nothing.
-use Rattle.image.proofs.Seek.{seek-step, seek-end, turn-up, turn-down}
+use Rattle.image.proofs.Seek.{seek-step, seek-end, turn-either}
 use Rattle.image.specs.Held.{Rising}
 use Rattle.image.specs.Questions.{seek}
 use Rattle.image.specs.Form.{form1, edgeAt}
 use borrow.Author.Tests.{eq-eqb, ne-eqb}
 use native.Mathlib.Omega.{arith}
-use mathlib.Core.Logic.{⊎-elim}
 use mathlib.Core.Path.{_≡_, refl, _∙_}
 use Prim.Native.Nat.{_+_, _-_, _/_, _≤_, _<_}
 use borrow.Author.Needs.{needs}
@@ -31,6 +30,9 @@ add-edge-event c = search needs
 edge-event-requires : tie.Need-edge-event-requires Inv-loop μ-loop
 edge-event-requires c κs = search needs
 
+ahead-requires : tie.Need-ahead-requires Inv-loop μ-loop
+ahead-requires c κs = search needs
+
 add-j : tie.Need-add-j Inv-loop μ-loop
 add-j c = search needs
 
@@ -42,16 +44,16 @@ loop-less c = search needs
 
 loop-again : tie.Need-loop-again Inv-loop μ-loop
 loop-again c =
-    let at-loop = c .before .before .before in
+    let at-edge-event = c .before in
+    let at-loop = at-edge-event .before .before in
     let s = at-loop .before .before in
     let i = at-loop .loop in
     let E = edgeAt form1 (s .args .image .now) (s .args .places) in
-    ⊎-elim (λ w. let r = turn-up E _ (i .left / 2) (i .left) (i .j) _ (i .inv .2) (omega arith)
-    (rw (c .before .edge-event .ensures .is) at (w .0 .taken)) (w .1) in
-    (omega (arith, w .1), omega arith, r .0, i .inv .3 ∙ r .1))
-    (λ w. let r = turn-down E _ (i .left / 2) (i .left) (i .j) _ (i .inv .2) (omega arith) (omega arith)
-    (rw (c .before .edge-event .ensures .is) at (w .0 .left)) (w .1) in
-    (omega (arith, w .1), omega arith, r .0, i .inv .3 ∙ r .1)) (c .if1 .came)
+    let r = turn-either E (s .args .event) (i .left / 2) (i .left) (i .j) (i .j + c .ahead .result) _ (i .inv .2)
+    (omega arith) (omega arith) (at-edge-event .edge-event .ensures .is) (λ l. omega (arith, c .ahead .ensures .1 l))
+    (λ l. omega (arith, c .ahead .ensures .2 l)) in
+    let b = r .0 in
+    (omega arith, omega arith, r .1, i .inv .3 ∙ r .2)
 
 edge-event-requires-2 : tie.Need-edge-event-requires-2 Inv-loop μ-loop
 edge-event-requires-2 c κs = search needs
@@ -63,7 +65,7 @@ returns c =
       at-loop .loop .inv .3,
       seek-step _ _ _ _ (at-loop .loop .inv .1),
       ← c .before .edge-event2 .ensures .is,
-      eq-eqb _ _ (c .if2 .taken),
+      eq-eqb _ _ (c .if1 .taken),
     )
 
 returns-2 : tie.Need-returns-2 Inv-loop μ-loop
@@ -74,7 +76,7 @@ returns-2 c =
       at-loop .loop .inv .3,
       seek-step _ _ _ _ (at-loop .loop .inv .1),
       ← c .before .edge-event2 .ensures .is,
-      ne-eqb _ _ (c .if2 .left),
+      ne-eqb _ _ (c .if1 .left),
       seek-end _ _ _ _ z,
     )
 
@@ -87,6 +89,7 @@ halved-spec =
     loop-holds
     add-edge-event
     edge-event-requires
+    ahead-requires
     add-j
     sub-left
     loop-less

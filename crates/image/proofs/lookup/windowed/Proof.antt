@@ -29,7 +29,8 @@ halved-requires c κs =
     let lo = c .before .before .low .result in
     let hi = c .before .high .result in
     let l = c .if1 .taken in
-    (omega arith, omega arith, rising-part E (s .args .n) (s .args .j) lo hi (omega arith) (omega arith) (s .pre .3))
+    let up = rising-part E (s .args .n) (s .args .j) lo hi (omega arith) (omega arith) (s .pre .3) in
+    (omega arith, omega arith, up, s .pre .1)
 
 returns : tie.Need-returns
 returns c =

@@ -76,7 +76,13 @@ loop-again c =
       simp length-set (i .inv .0),
       omega arith,
       packed-more xs (i .table) (i .p) _ (omega arith) (i .inv .2)
-          (record { next = omega arith; level = omega arith; mark = omega arith }),
+          (record {
+            next = omega arith;
+            gap = omega arith;
+            level = omega arith;
+            mark = omega arith;
+            small = omega arith;
+          }),
     )
 
 returns : tie.Need-returns Inv-loop μ-loop

@@ -1,6 +1,6 @@
 -- `image::over::report` meets its contract. The loop carries what is left to write: a turn of `Report`.
 -- Assumes nothing.
-use Rattle.image.proofs.Report.{Writing, next-less, write-start, write-turn, write-room, write-end}
+use Rattle.image.proofs.Report.{Writing, next-less, write-start, record-small, write-turn, write-room, write-end}
 use Rattle.image.proofs.Accepted.{facts}
 use Rattle.image.specs.Held.{edgesOf}
 use native.Mathlib.Omega.{arith}
@@ -50,8 +50,19 @@ mul-put-record c =
     let r = write-room xs q (edgesOf xs) F _ _ _ _ _ _ _ (i .inv) (c .before .before .loop-test .taken) (s .pre .3) in
     omega arith
 
-cast-put-record : tie.Need-cast-put-record Inv-loop μ-loop
-cast-put-record c = search needs
+sub-put-record : tie.Need-sub-put-record Inv-loop μ-loop
+sub-put-record c = search needs
+
+add-put-record : tie.Need-add-put-record Inv-loop μ-loop
+add-put-record c =
+    let at-loop = c .before .before .before in
+    let s = at-loop .before .before .before .before in
+    let xs = s .args .image .now in
+    let q = s .args .places in
+    let F = facts xs q (edgesOf xs) 0 0 (s .pre .0 .is) in
+    let i = at-loop .loop in
+    let r = record-small xs q (edgesOf xs) F _ _ _ (s .pre .2 (i .link) (i .inv .counting .below)) (s .pre .4) in
+    omega arith
 
 put-record-requires : tie.Need-put-record-requires Inv-loop μ-loop
 put-record-requires c κs =
@@ -61,8 +72,10 @@ put-record-requires c κs =
     let q = s .args .places in
     let A = s .pre .0 in
     let F = facts xs q (edgesOf xs) 0 0 (A .is) in
-    let i = at-loop .loop in
-    write-room xs q (edgesOf xs) F _ _ _ _ _ _ _ (i .inv) (c .before .before .loop-test .taken) (s .pre .3)
+    let i = at-loop .loop in (
+      write-room xs q (edgesOf xs) F _ _ _ _ _ _ _ (i .inv) (c .before .before .loop-test .taken) (s .pre .3),
+      record-small xs q (edgesOf xs) F _ _ _ (s .pre .2 (i .link) (i .inv .counting .below)) (s .pre .4),
+    )
 
 add-k : tie.Need-add-k Inv-loop μ-loop
 add-k c =
@@ -102,7 +115,7 @@ loop-again c =
     let F = facts xs q (edgesOf xs) 0 0 (A .is) in
     let i = at-loop .loop in
     write-turn xs q (edgesOf xs) F _ _ _ _ _ _ _ _ _ (i .inv) (at-loop-test .loop-test .taken)
-    (s .pre .2 (i .link) (i .inv .counting .below)) (at-put-record .put-record .kept .0)
+    (s .pre .2 (i .link) (i .inv .counting .below)) (s .pre .4) (at-put-record .put-record .kept .0)
     (at-put-record .put-record .ensures)
 
 same-length : tie.Need-same-length Inv-loop μ-loop
@@ -129,7 +142,8 @@ report-spec =
     mul-entry
     element-copy-out-entry
     mul-put-record
-    cast-put-record
+    sub-put-record
+    add-put-record
     put-record-requires
     add-k
     loop-less
