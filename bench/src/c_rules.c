@@ -4,7 +4,8 @@
      - a place's next place is computed anew each time, through its fallbacks, upwards from the chain's end;
      - a chain met again is read to its end, and so is the chain that it is compared with;
      - whether a state stands in the rest of a chain is asked of an array of seen states, fresh for each edge;
-     - places and edges are counted first, and written afterwards.
+     - places and edges are counted first, and written afterwards;
+     - what an event makes of the rest of a chain is then read from the image, as far as it is written.
    Everything else is as fast as could be made. COUNT_READS counts entries read, for the search of slow books. */
 #include "contest.h"
 #include "lookup.h"
@@ -87,6 +88,31 @@ static int number_places(work *w) {
     return 1;
 }
 
+/* The number of the edge with this event among the edges of a state, which rise; `count` where there is none. */
+static inline uint32_t edge_number(const uint8_t *edge, uint32_t count, uint32_t event) {
+    uint32_t j = 0, left = count;
+    while (left) {
+        uint32_t half = left / 2, found = edge[4 * (j + half)];
+        if (found == event) return j + half;
+        if (found < event) j += half + 1, left -= half + 1;
+        else left = half;
+    }
+    return count;
+}
+
+/* The same as rest_after, by a walk over the image: the edges of the places below p are written, `start` has those of
+   place 0. */
+static inline uint32_t rest_written(const work *w, const uint8_t *out, const uint16_t start[256], uint32_t p, uint32_t event) {
+    if (!p) return 0;
+    for (uint32_t g = w->fallback[p]; g; g = w->fallback[g]) {
+        uint32_t head = w->head[g], count = edge_count(w, head);
+        READ();
+        uint32_t i = edge_number(w->edges + 4 * w->first[head], count, event);
+        if (i < count) return le16(out + 14 * w->places + 4 * (le16(out + 14 * g) + i) + 2);
+    }
+    return start[event];
+}
+
 answer rules_compile(const uint8_t *book, size_t n, uint8_t *out, size_t room) {
     answer checked = plain_check_book(book, n);
     if (checked.number) return checked;
@@ -106,7 +132,8 @@ answer rules_compile(const uint8_t *book, size_t n, uint8_t *out, size_t room) {
     if (T > 4096) return refused(15);
     uint32_t length = 14 * w.places + 4 * T + 12, first = 0;
     if (room < length) return refused(16);
-    uint8_t seen[512], *to = out + 14 * w.places;
+    uint8_t *to = out + 14 * w.places;
+    uint16_t start[256] = {0};
     for (uint32_t p = 0; p < w.places; p++) {
         uint32_t head = w.head[p], count = edge_count(&w, head), mark = w.states[4 * head];
         uint8_t *r = out + 14 * p;
@@ -119,8 +146,10 @@ answer rules_compile(const uint8_t *book, size_t n, uint8_t *out, size_t room) {
         put16(r + 12, mark);
         const uint8_t *edge = w.edges + 4 * w.first[head];
         for (uint32_t j = 0; j < count; j++, edge += 4, to += 4) {
-            uint32_t state = le16(edge + 2), rest = rest_after(&w, p, edge[0], seen);
-            put32(to, edge[0] | (seen[state] ? rest : find(&w, state, w.level[p] + 1u, rest)) << 16);
+            uint32_t rest = rest_written(&w, out, start, p, edge[0]), target = find(&w, le16(edge + 2), w.level[p] + 1u, rest);
+            if (!target) target = rest;         /* the state stands in the rest already */
+            if (!p) start[edge[0]] = (uint16_t)target;
+            put32(to, edge[0] | target << 16);
         }
         first += count;
     }

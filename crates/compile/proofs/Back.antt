@@ -1,21 +1,28 @@
 -- What was written is read back: the bytes of a book's image hold the records of the model. `spread-at`: record i of
--- records one after the other. `place-back`, `edge-back`, `trailer-back`: a record from its bytes. `image-place`,
--- `image-edge`, `image-trailer`, `image-letters`: those of the image. Assumes nothing.
-use mathlib.Core.Path.{_≡_, refl, sym, ap, _∙_}
+-- records one after the other; `wrote-stand`: once they are written. `place-back`, `edge-back`, `trailer-back`: one
+-- record from its bytes. `place-at`, `edge-at`: the record of a place, of an edge. `image-place`, `image-edge`,
+-- `image-trailer`, `image-letters`: those of the image. Assumes nothing.
+use mathlib.Core.Path.{_≡_, refl, sym, ap, _∙_, subst}
 use mathlib.Core.Bool.{true}
-use mathlib.Core.List.{List, [], _∷_, _++_, append-assoc}
+use mathlib.Core.List.{List, [], _∷_, _++_, append-assoc, map}
 use Prim.Native.Nat.{ℕ, zero, suc, _+_, _*_, _-_, _/_, _%_, _≤_, _<_}
 use native.Mathlib.Omega.{arith}
 use native.Mathlib.Nat.{mul-suc, mul-zero}
-use lib.ListN.{length, getD, length-append, List·getD-append}
-use lib.Seq.{getD-append-add, getD-append-seam}
+use lib.ListN.{length, getD, drop, length-append, List·getD-append}
+use lib.Seq.{sets, getD-append-add, getD-append-seam}
 use Rattle.wire.specs.Little.{le16At, le32At}
-use Rattle.meaning.specs.Chain.{Chain}
-use Rattle.meaning.specs.Book.{Book}
+use Rattle.meaning.specs.Chain.{Chain, step, head}
+use Rattle.meaning.specs.Places.{number}
+use Rattle.meaning.specs.Book.{Book, delta, outs, marks}
+use Rattle.meaning.specs.Questions.{firstEdge}
 use Rattle.meaning.proofs.Cases.{by-order}
+use Rattle.meaning.proofs.Edges.{firstEdge-suc, firstEdge-mono}
 use Rattle.image.specs.Form.{PlaceRecord, EdgeRecord, Trailer, form1, sizeOf, placeAt, edgeAt, hasLetters}
-use Rattle.compile.specs.Bytes.{trailerOf, spread, placeOf, placesBelow, edgesBelow, edgeCount, imageBytes}
+use Rattle.compile.specs.Bytes.{edgeRecord, trailerOf, spread, placeOf, edgesOf, placesBelow, edgesBelow}
+use Rattle.compile.specs.Bytes.{edgeCount, imageBytes}
+use Rattle.compile.specs.Write.{Wrote}
 use Rattle.compile.proofs.Records.{place-bytes, edge-bytes, length-places, length-edges}
+use Rattle.compile.proofs.Written.{length-spread, sets-at}
 
 -- ---- records one after the other
 module _ {A : Type 0} (g : A → List ℕ) (k : ℕ) (size : (r : A) → length (g r) ≡ k) where
@@ -44,14 +51,14 @@ pub record Fits (r : PlaceRecord) : Type 0 where
   pub link : r .link < 65536
 
 -- the n bytes bs stand at a place
-record Stand (xs : List ℕ) (at n : ℕ) (bs : List ℕ) : Type 0 where
-  byte : (j : ℕ) → j < n → getD xs (at + j) 0 ≡ getD bs j 0
+pub record Stand (xs : List ℕ) (at n : ℕ) (bs : List ℕ) : Type 0 where
+  pub byte : (j : ℕ) → j < n → getD xs (at + j) 0 ≡ getD bs j 0
 
 module _ {xs : List ℕ} {at n : ℕ} {bs : List ℕ} (X : Stand xs at n bs) where
   first-byte : 0 < n → getD xs at 0 ≡ getD bs 0 0
   first-byte l = let e : at ≡ at + 0 = omega arith in ap (λ (i : ℕ). getD xs i 0) e ∙ X .byte 0 l
 
-  number-back : (k v : ℕ) → k + 1 < n → getD bs k 0 ≡ v % 256 → getD bs (k + 1) 0 ≡ v / 256 % 256 → v < 65536
+  pub number-back : (k v : ℕ) → k + 1 < n → getD bs k 0 ≡ v % 256 → getD bs (k + 1) 0 ≡ v / 256 % 256 → v < 65536
       → le16At xs (at + k) ≡ v
   number-back k v l e f small =
       let lo = X .byte k (omega arith) in
@@ -60,7 +67,7 @@ module _ {xs : List ℕ} {at n : ℕ} {bs : List ℕ} (X : Stand xs at n bs) whe
       let hi' : getD xs (at + k + 1) 0 ≡ getD bs (k + 1) 0 = ap (λ (i : ℕ). getD xs i 0) g ∙ hi in
       omega arith
 
-  first-number : (v : ℕ) → 1 < n → getD bs 0 0 ≡ v % 256 → getD bs 1 0 ≡ v / 256 % 256 → v < 65536 → le16At xs at ≡ v
+  pub first-number : (v : ℕ) → 1 < n → getD bs 0 0 ≡ v % 256 → getD bs 1 0 ≡ v / 256 % 256 → v < 65536 → le16At xs at ≡ v
   first-number v l e f small =
       let g : at ≡ at + 0 = omega arith in
       ap (λ (i : ℕ). le16At xs i) g ∙ number-back 0 v l e f small
@@ -108,8 +115,23 @@ trailer-back xs at r X l1 l2 l3 l4 =
     let e4 = number-back X 8 (r .form) (omega arith) refl refl l4 in
     λ i. record { distance = e1 i; places = e2 i; edges = e3 i; form = e4 i }
 
+-- record i of records that were written one after the other, where there is room for them
+pub wrote-stand : {A : Type 0} (g : A → List ℕ) (k : ℕ) → ((r : A) → length (g r) ≡ k) → (rs : List A) (x : A)
+    {d d' : List ℕ} {at r : ℕ} → Wrote d at (spread g rs) d' r → at + k * length rs ≤ length d
+    → (i to : ℕ) → i < length rs → to ≡ at + k * i → Stand d' to k (g (getD rs i x))
+wrote-stand g k size rs x {d} {d'} {at} W room i to l e =
+    let n = length-spread g k size rs in
+    record {
+      byte = λ j h.
+          let z : to + j ≡ at + (k * i + j) = omega arith in
+          ap (λ (y : List ℕ). getD y (to + j) 0) (W .is)
+          ∙ ap (λ (y : ℕ). getD (sets d at (spread g rs)) y 0) z
+          ∙ sets-at d at (spread g rs) (omega arith) (k * i + j)
+          ∙ spread-at g k size rs x i j l h (drop (at + length (spread g rs)) d);
+    }
+
 -- ---- the records of the image
-place-at : (B : Book) (L : List Chain) (n p : ℕ) (x : PlaceRecord) → p < n → getD (placesBelow B L n) p x ≡ placeOf B L p
+pub place-at : (B : Book) (L : List Chain) (n p : ℕ) (x : PlaceRecord) → p < n → getD (placesBelow B L n) p x ≡ placeOf B L p
 unfolding placesBelow
 place-at B L zero p x l = absurd (let w : ⊥ = omega arith in w)
 place-at B L (suc n) p x l =
@@ -122,6 +144,40 @@ place-at B L (suc n) p x l =
     ∙ getD-append-seam (placesBelow B L n) (placeOf B L n) [] x
     ∙ ap (λ (i : ℕ). placeOf B L i) (sym h))
     (λ h. absurd (let w : ⊥ = omega arith in w))
+
+map-at : {A : Type 0} (f : ℕ → A) (es : List ℕ) (i : ℕ) (x : A) → i < length es → getD (map f es) i x ≡ f (getD es i 0)
+map-at f [] i x l = absurd (let w : ⊥ = omega arith in w)
+map-at f (e ∷ es) zero x l = refl
+map-at f (e ∷ es) (suc i) x l = map-at f es i x (omega arith)
+
+module _ (B : Book) (L : List Chain) where
+  abbrev firsts : ℕ → ℕ
+  firsts = firstEdge (delta B) (outs B) (marks B) L
+
+  abbrev pub at-edge : ℕ → ℕ → EdgeRecord
+  at-edge p a = edgeRecord a (number L (step (delta B) (getD L p []) a))
+
+  -- edge i of the place p stands at the place's first edge and its own number
+  pub edge-at : (n p i : ℕ) (x : EdgeRecord) → p < n → i < length (outs B (head (getD L p [])))
+      → getD (edgesBelow B L n) (firsts p + i) x ≡ at-edge p (getD (outs B (head (getD L p []))) i 0)
+  unfolding edgesBelow
+  edge-at zero p i x l k = absurd (let w : ⊥ = omega arith in w)
+  edge-at (suc n) p i x l k =
+      let len = length-edges B L n in
+      by-order p n
+      (λ h.
+      let s = firstEdge-suc (delta B) (outs B) (marks B) L p in
+      let up = firstEdge-mono (delta B) (outs B) (marks B) L (suc p) n (omega arith) in
+      List·getD-append (edgesBelow B L n) (edgesOf B L n) x (firsts p + i) (omega arith) ∙ edge-at n p i x h k)
+      (λ h.
+      let g : firsts p + i ≡ length (edgesBelow B L n) + i = ap (λ (q : ℕ). firsts q + i) h ∙ omega arith in
+      let k' : i < length (outs B (head (getD L n []))) =
+      subst (λ (q : ℕ). i < length (outs B (head (getD L q [])))) h k in
+      ap (λ (j : ℕ). getD (edgesBelow B L n ++ edgesOf B L n) j x) g
+      ∙ getD-append-add (edgesBelow B L n) (edgesOf B L n) i x
+      ∙ map-at (at-edge n) (outs B (head (getD L n []))) i x k'
+      ∙ ap (λ (q : ℕ). at-edge q (getD (outs B (head (getD L q []))) i 0)) (sym h))
+      (λ h. absurd (let w : ⊥ = omega arith in w))
 
 module _ (B : Book) (L : List Chain) where
   abbrev places : List ℕ

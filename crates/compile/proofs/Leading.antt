@@ -39,7 +39,7 @@ module _ {t : List ℕ} {S : ℕ} {first : List ℕ} (R : Ready t S first) (h a 
   led-small {q} n = R .small h a q (an-edge n)
 
 -- the events of a state's edges, from its first edge on
-own : {t : List ℕ} {S : ℕ} {first : List ℕ} → Ready t S first → (h : ℕ) {m j : ℕ} → m ≡ length (outs (tableBook t S) h)
+pub own : {t : List ℕ} {S : ℕ} {first : List ℕ} → Ready t S first → (h : ℕ) {m j : ℕ} → m ≡ length (outs (tableBook t S) h)
     → j ≡ getD first h 0 → eventsFrom t S m j ≡ outs (tableBook t S) h
 own {t} {S} {first} R h {m} {j} e g =
     let out : S ≤ h → eventsFrom t S m j ≡ outs (tableBook t S) h =

@@ -1,5 +1,5 @@
 -- Rows to Leading: the exploration, on plain values. Written, Records: what is written. Answers: the answer, from the
--- parts. Back to Valid: the image that was written, read again. Theorems: what a compile gives. Examples: document 01's
+-- parts. Back to Valid: the image that was written, read again; Reading: by the second pass itself. Theorems: what a compile gives. Examples: document 01's
 -- books, computed.
 pub mod Rows
 pub mod Same
@@ -11,6 +11,7 @@ pub mod Written
 pub mod Records
 pub mod Answers
 pub mod Back
+pub mod Reading
 pub mod Shown
 pub mod Valid
 pub mod Theorems

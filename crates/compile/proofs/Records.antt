@@ -120,6 +120,11 @@ pub record Edging (B : Book) (w : Rows) (n : ℕ) (d : List ℕ) (at p at' : ℕ
   pub most : p ≤ n
   pub so-far : Wrote d at (spread (form1 .edge-bytes) (edgesBelow B (listOf w n) p)) d' at'
 
+-- what was so when the loop began, with the edge records of place 0 written, is so with those of the places below p
+abbrev pub EdgingOn : Book → Rows → ℕ → ℕ → List ℕ → ℕ → ℕ → List ℕ → Type 0
+EdgingOn B w n at₀ d₀ p at d' =
+    (d : List ℕ) (o : ℕ) → Edging B w n d o 1 at₀ d₀ → Edging B w n d o p at d'
+
 -- the memory keeps its length
 pub wrote-length : {d bs d' : List ℕ} {at r : ℕ} → Wrote d at bs d' r → length d' ≡ length d
 wrote-length {d} {bs} {d'} {at} W = ap length (W .is) ∙ length-sets d at bs
@@ -163,7 +168,7 @@ edging-end {B} {w} {n} {p} {at} {at'} {d} {d'} E l =
 
 -- ---- the arrays and the model
 module _ {B : Book} {w : Rows} {n : ℕ} (N : Numbered B w n) where
-  numbers : Numbers (delta B) (listOf w n)
+  pub numbers : Numbers (delta B) (listOf w n)
   numbers = places-number (delta B) (outs B) (delta-names B) 1024 (listOf w n) (N .all) .0
 
   number-of : (p : ℕ) (d : Chain) → p < n → chainOf w p ≡ d → number (listOf w n) d ≡ p

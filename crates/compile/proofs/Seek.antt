@@ -40,7 +40,7 @@ module _ (w : Rows) (n : ℕ) (H : Held w n) where
       by-eq p 0 (λ e. rw (e, chain-zero w) (sym (H .level-zero)))
       (λ e. rw (chain-cons w (H .fallbacks-down) p (omega arith)))
 
-  rest-zero : (δ : Delta) (a p : ℕ) → p ≡ 0 → restAfter δ (chainOf w p) a ≡ []
+  pub rest-zero : (δ : Delta) (a p : ℕ) → p ≡ 0 → restAfter δ (chainOf w p) a ≡ []
   rest-zero δ a p e = rw (e, chain-zero w)
 
   pub rest-cons : (δ : Delta) (a p f : ℕ) → p ≢ 0 → f ≡ getD (w .fallbacks) p 0

@@ -26,7 +26,7 @@ use Rattle.image.specs.Form.{PlaceRecord, EdgeRecord, Trailer, form1, placeAt, 
 use Rattle.image.specs.Questions.{seek, questionsAt, questions}
 use Rattle.compile.specs.Bytes.{reported, edgeRecord, placeOf, edgesFor, edgesOf, edgesBelow, edgeCount, imageBytes}
 use Rattle.compile.proofs.Records.{length-edges}
-use Rattle.compile.proofs.Back.{Fits, image-place, image-edge, image-trailer}
+use Rattle.compile.proofs.Back.{Fits, at-edge, edge-at, image-place, image-edge, image-trailer}
 use Rattle.meaning.proofs.Alike.{Alike}
 
 pub record Fine (B : Book) (L : List Chain) : Type 0 where
@@ -38,11 +38,6 @@ pub record Fine (B : Book) (L : List Chain) : Type 0 where
   pub under : Under 512 (delta B)
   pub start : marks B 0 ≡ 0
   pub rise : (q i k : ℕ) → i < k → k < length (outs B q) → getD (outs B q) i 0 < getD (outs B q) k 0
-
-map-at : {A : Type 0} (f : ℕ → A) (es : List ℕ) (i : ℕ) (x : A) → i < length es → getD (map f es) i x ≡ f (getD es i 0)
-map-at f [] i x l = absurd (let w : ⊥ = omega arith in w)
-map-at f (e ∷ es) zero x l = refl
-map-at f (e ∷ es) (suc i) x l = map-at f es i x (omega arith)
 
 map-append : {A B : Type 0} (f : A → B) (xs ys : List A) → map f (xs ++ ys) ≡ map f xs ++ map f ys
 map-append f [] ys = refl
@@ -132,38 +127,13 @@ module _ {B : Book} {L : List Chain} (F : Fine B L) where
   pub target-low : (p a : ℕ) → p < length L → number L (step (delta B) (getD L p []) a) < length L
   target-low p a l = number-step (delta B) L (F .numbers) p a l .0
 
-  abbrev at-edge : ℕ → ℕ → EdgeRecord
-  at-edge p a = edgeRecord a (number L (step (delta B) (getD L p []) a))
-
-  -- edge i of the place p stands at the place's first edge and its own number
-  edge-at : (n p i : ℕ) (x : EdgeRecord) → p < n → i < length (outs B (head (getD L p [])))
-      → getD (edgesBelow B L n) (firsts p + i) x ≡ at-edge p (getD (outs B (head (getD L p []))) i 0)
-  unfolding edgesBelow
-  edge-at zero p i x l k = absurd (let w : ⊥ = omega arith in w)
-  edge-at (suc n) p i x l k =
-      let len = length-edges B L n in
-      by-order p n
-      (λ h.
-      let s = firstEdge-suc (delta B) (outs B) (marks B) L p in
-      let up = firstEdge-mono (delta B) (outs B) (marks B) L (suc p) n (omega arith) in
-      List·getD-append (edgesBelow B L n) (edgesOf B L n) x (firsts p + i) (omega arith) ∙ edge-at n p i x h k)
-      (λ h.
-      let g : firsts p + i ≡ length (edgesBelow B L n) + i = ap (λ (q : ℕ). firsts q + i) h ∙ omega arith in
-      let k' : i < length (outs B (head (getD L n []))) =
-      subst (λ (q : ℕ). i < length (outs B (head (getD L q [])))) h k in
-      ap (λ (j : ℕ). getD (edgesBelow B L n ++ edgesOf B L n) j x) g
-      ∙ getD-append-add (edgesBelow B L n) (edgesOf B L n) i x
-      ∙ map-at (at-edge n) (outs B (head (getD L n []))) i x k'
-      ∙ ap (λ (q : ℕ). at-edge q (getD (outs B (head (getD L q []))) i 0)) (sym h))
-      (λ h. absurd (let w : ⊥ = omega arith in w))
-
   abbrev blank : EdgeRecord
   blank = edgeRecord 0 0
 
   pub edge-shown : (p i : ℕ) → p < length L → i < length (outs B (head (getD L p [])))
-      → edgeAt form1 (imageBytes form1 B L) (length L) (firsts p + i) ≡ at-edge p (getD (outs B (head (getD L p []))) i 0)
+      → edgeAt form1 (imageBytes form1 B L) (length L) (firsts p + i) ≡ at-edge B L p (getD (outs B (head (getD L p []))) i 0)
   edge-shown p i l k =
-      let e = edge-at (length L) p i blank l k in
+      let e = edge-at B L (length L) p i blank l k in
       let few = F .few-places in
       let t = target-low p (getD (outs B (head (getD L p []))) i 0) l in
       let n = count-low p l in

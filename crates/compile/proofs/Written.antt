@@ -1,12 +1,13 @@
 -- Bytes written one after the other are the records of the image. `place-sets`, `edge-sets`, `trailer-sets`: one
--- record. `spread-snoc`, `spread-append`: records one after the other. Assumes nothing.
+-- record. `spread-snoc`, `spread-append`: records one after the other. `sets-below`, `sets-at`: a byte below what was
+-- written stays, and one of it is what was written. Assumes nothing.
 use mathlib.Core.Path.{_≡_, refl, sym, ap, _∙_}
 use mathlib.Core.List.{List, [], _∷_, _++_, append-assoc, append-nil}
-use Prim.Native.Nat.{ℕ, _+_, _*_}
+use Prim.Native.Nat.{ℕ, suc, _+_, _*_, _≤_, _<_}
 use native.Mathlib.Omega.{arith}
 use native.Mathlib.Nat.{mul-suc, mul-zero}
-use lib.ListN.{length, getD, set, length-append}
-use lib.Seq.{sets}
+use lib.ListN.{length, getD, set, take, drop, length-append}
+use lib.Seq.{sets, sets-eq, length-take-le, getD-set-other, getD-append-add}
 use Rattle.wire.specs.Little.{bytes16, bytes32, put16At, put32At}
 use Rattle.wire.proofs.Sets.{sets-then, put16-sets, sets16-then, sets32-then, sets-two}
 use Rattle.image.specs.Form.{form1}
@@ -83,3 +84,19 @@ wrote-then {d} {bs = bs} {cs = cs} {at = at} {m = m} X Y =
       is = Y .is ∙ ap (λ (z : List ℕ). sets z m cs) (X .is) ∙ sym (sets-then d at m bs cs (X .next));
       next = omega arith;
     }
+
+-- what was written, byte by byte, where there is room for it
+pub sets-below : (d : List ℕ) (at : ℕ) (bs : List ℕ) (i : ℕ) → i < at → getD (sets d at bs) i 0 ≡ getD d i 0
+sets-below d at [] i l = refl
+sets-below d at (b ∷ bs) i l =
+    sets-below (set d at b) (suc at) bs i (omega arith) ∙ getD-set-other d at i b 0 (omega arith)
+
+pub sets-at : (d : List ℕ) (at : ℕ) (bs : List ℕ) → at + length bs ≤ length d → (i : ℕ)
+    → getD (sets d at bs) (at + i) 0 ≡ getD (bs ++ drop (at + length bs) d) i 0
+sets-at d at bs l i =
+    let n = length-take-le at d (omega arith) in
+    let e : at + i ≡ length (take at d) + i = omega arith in
+    ap (λ (z : List ℕ). getD z (at + i) 0)
+    (sets-eq bs d at l ∙ append-assoc (take at d) bs (drop (at + length bs) d))
+    ∙ ap (λ (k : ℕ). getD (take at d ++ (bs ++ drop (at + length bs) d)) k 0) e
+    ∙ getD-append-add (take at d) (bs ++ drop (at + length bs) d) i 0

@@ -120,57 +120,6 @@ fn rest_place(
     )
 }
 
-// The place that the event leads to from the place p, where there is one.
-pub(crate) fn place_after(
-    table: &[u8],
-    states: usize,
-    first: &[u16; 512],
-    newest: &[u16; 512],
-    earlier: &[u16; 1024],
-    heads: &[u16; 1024],
-    levels: &[u16; 1024],
-    fallbacks: &[u16; 1024],
-    n: usize,
-    p: usize,
-    event: usize,
-) -> usize
-    requires { ⌜ Stands (now table) states (now first) (now newest) (now earlier) (rows (now heads) (now levels) (now fallbacks)) n p ⌝ }
-    ensures { λ r. ⌜ IsPlace whole (rows (now (heads .entry)) (now (levels .entry)) (now (fallbacks .entry))) n
-        (step (delta (tableBook (now (table .entry)) states))
-        (chainOf (rows (now (heads .entry)) (now (levels .entry)) (now (fallbacks .entry))) p) event) r ⌝ }
-{
-    let mut seen = nothing_seen();
-    let rest = rest_place(
-        table,
-        states,
-        first,
-        newest,
-        earlier,
-        heads,
-        levels,
-        fallbacks,
-        n,
-        p,
-        event,
-        &mut seen,
-    );
-    target(
-        table,
-        states,
-        first,
-        newest,
-        earlier,
-        heads,
-        levels,
-        fallbacks,
-        n,
-        p,
-        event,
-        rest,
-        &mut seen,
-    )
-}
-
 // The chain of the place p after the event is met: the number of places, 1,025 where there is no room for it.
 fn meet_edge(
     table: &[u8],

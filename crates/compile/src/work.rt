@@ -10,7 +10,7 @@ ghost use Rattle.meaning.specs.Places.{sameChain, meet};
 ghost use Rattle.compile.specs.Work.{Down, rows, chainOf, listOf, Fit};
 ghost use Rattle.compile.specs.Explore.{whole, Finds, Pushed, Grown, Seen, Settled};
 
-fn wide(x: u16) -> usize
+pub(crate) fn wide(x: u16) -> usize
     ensures { λ r. ⌜ (r ≡ x) × (r < 65536) ⌝ }
 {
     x as usize
@@ -71,7 +71,7 @@ fn same_chain(
 
 // The place below n whose chain is the state head with the level, and then the chain of the place rest; 0 where there
 // is none.
-fn find(
+pub(crate) fn find(
     newest: &[u16; 512],
     earlier: &[u16; 1024],
     heads: &[u16; 1024],

@@ -60,7 +60,8 @@ returns-3 c =
 
 write-image-requires : tie.Need-write-image-requires
 write-image-requires c κs =
-    let at-if2 = c .before .before .before .before .before .before .before .before in
+    let at-if3 = c .before .before .before .before .before .before .before in
+    let at-if2 = at-if3 .before in
     let at-if1 = at-if2 .before in
     let at-explore = at-if1 .before in
     let at-firsts = at-explore .before .before .before .before .before .before .before in
@@ -70,6 +71,7 @@ write-image-requires c κs =
       stands-first (ready-first (at-start .pre) (at-firsts .firsts .ensures)) x nz,
       numbered x (at-start .args .out .now) nz (at-if2 .if2 .left),
       x .edges (omega arith),
+      let room = at-if3 .if3 .left in omega arith,
     )
 
 same-length : tie.Need-same-length

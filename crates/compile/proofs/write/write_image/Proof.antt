@@ -1,5 +1,6 @@
 -- `write_image` meets its contract. Assumes nothing.
 use borrow.Author.Needs.{needs}
+use Rattle.compile.proofs.Reading.{known-start, room-left}
 use Rattle.compile.proofs.Records.{places-end, edges-end, image-wrote}
 use Rattle.compile.proofs.write.write_image.Statement.{statement}
 use Rattle.compile.proofs.write.write_image.Tie as tie
@@ -11,7 +12,14 @@ write-edges-requires : tie.Need-write-edges-requires
 write-edges-requires c κs =
     let at-write-places = c .before .before .before in
     let at-start = at-write-places .before .before .before .before in
-    (at-start .pre .0, at-start .pre .1, places-end (at-start .pre .1) (at-write-places .write-places .ensures))
+    let n = at-start .pre .1 in
+    let w = at-write-places .write-places .ensures in (
+      at-start .pre .0,
+      n,
+      known-start n (at-start .pre .2) (at-start .pre .3) w,
+      places-end n w,
+      room-left n (at-start .pre .2) (at-start .pre .3) w,
+    )
 
 write-trailer-requires : tie.Need-write-trailer-requires
 write-trailer-requires c κs =

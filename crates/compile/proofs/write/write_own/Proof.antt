@@ -10,18 +10,19 @@ use Rattle.book.proofs.Model.{eventsFrom, events-end}
 use Rattle.book.specs.Model.{tableBook}
 use Rattle.compile.specs.Work.{rows}
 use Rattle.compile.proofs.Leading.{next-event, place-low, head-low, own-events}
+use Rattle.compile.proofs.Reading.{known-kept, owning-same, edges-own}
 use Rattle.compile.proofs.Records.{Owning, owning-length, owning-start, owning-next, owning-end}
 use Rattle.compile.proofs.write.write_own.Statement.{statement}
 use Rattle.compile.proofs.write.write_own.Tie as tie
 
 abbrev Inv-loop : tie.InvT-loop
-Inv-loop table states first newest earlier heads levels fallbacks n p out₀ at head left₀ j₀ at₀ out left j at' =
-    (j + left ≤ 131072)
+Inv-loop table states first newest earlier heads levels fallbacks start n p out₀ at head left₀ j₀ at₀ out left j at' =
+    (j₀ ≤ j) × (j + left ≡ j₀ + left₀) × (at ≤ at')
     × Owning (tableBook table states) (rows heads levels fallbacks) n p out₀ at (eventsFrom table states left j) left
     at' out
 
 abbrev μ-loop : tie.MeasureT-loop
-μ-loop table states first newest earlier heads levels fallbacks n p out₀ at head left₀ j₀ at₀ out left j at' = left
+μ-loop table states first newest earlier heads levels fallbacks start n p out₀ at head left₀ j₀ at₀ out left j at' = left
 
 entry-requires : tie.Need-entry-requires Inv-loop μ-loop
 entry-requires c κs = place-low (c .before .before .pre .0)
@@ -35,9 +36,9 @@ of-head-requires c κs = head-low (c .before .before .before .before .pre .0) (c
 loop-holds : tie.Need-loop-holds Inv-loop μ-loop
 loop-holds c =
     let s = c .before .before .before .before .before in
-    let x = s .pre .0 in
-    let few = c .before .count-of .ensures .small in
-    let low = c .of-head .ensures .1 in (
+    let x = s .pre .0 in (
+      omega arith,
+      omega arith,
       omega arith,
       owning-start (s .pre .1) (x .below)
           (own-events x (c .before .before .entry .ensures .0) (c .before .count-of .ensures .is) (c .of-head .ensures .0))
@@ -51,16 +52,37 @@ edge-at-requires c κs = search needs
 
 place-after-requires : tie.Need-place-after-requires Inv-loop μ-loop
 place-after-requires c κs =
-    let at-start = c .before .before .before .before .before .before .before .before in
-    at-start .pre .0
+    let at-edge-at = c .before in
+    let at-loop-test = at-edge-at .before in
+    let at-loop = at-loop-test .before in
+    let at-of-head = at-loop .before in
+    let at-count-of = at-of-head .before in
+    let at-entry = at-count-of .before in
+    let s = at-entry .before .before .before in
+    let x = s .pre .0 in
+    let l = at-loop .loop in
+    let i0 = l .inv .0 in
+    let i1 = l .inv .1 in
+    let taken = at-loop-test .loop-test .taken in (
+      x,
+      s .pre .1,
+      known-kept (s .pre .1) (s .pre .2) (let b = x .below in omega arith) (s .pre .4)
+          (owning-same (l .inv .3) (l .inv .2)),
+      s .pre .3,
+      at-edge-at .edge-at .ensures .event,
+      edges-own (x .ready) (head-low x (at-entry .entry .ensures .0)) (at-count-of .count-of .ensures .is)
+          (at-of-head .of-head .ensures .0) (at-entry .entry .ensures .0) i0 (omega arith)
+          (at-edge-at .edge-at .ensures .is),
+    )
 
 write-edge-requires : tie.Need-write-edge-requires Inv-loop μ-loop
 write-edge-requires c κs =
-    let at-loop = c .before .before .before .before in
+    let at-edge-at = c .before .before .before in
+    let at-loop = at-edge-at .before .before in
     let at-start = at-loop .before .before .before .before .before .before in
-    let room = at-start .pre .2 in
-    let ends = at-loop .loop .inv .1 .ends in
-    let small = c .before .before .edge-at .ensures .event in
+    let room = at-start .pre .5 in
+    let ends = at-loop .loop .inv .3 .ends in
+    let small = at-edge-at .edge-at .ensures .event in
     (omega arith, omega arith)
 
 sub-left : tie.Need-sub-left Inv-loop μ-loop
@@ -71,10 +93,10 @@ add-j c = search needs
 
 add-at : tie.Need-add-at Inv-loop μ-loop
 add-at c =
-    let at-loop = c .before .before .before .before .before .before .before in
+    let at-loop = c .before .before .before .before .before .before .before .before in
     let at-start = at-loop .before .before .before .before .before .before in
-    let room = at-start .pre .2 in
-    let ends = at-loop .loop .inv .1 .ends in
+    let room = at-start .pre .5 in
+    let ends = at-loop .loop .inv .3 .ends in
     omega arith
 
 loop-less : tie.Need-loop-less Inv-loop μ-loop
@@ -83,26 +105,32 @@ loop-less c = search needs
 loop-again : tie.Need-loop-again Inv-loop μ-loop
 loop-again c =
     let at-place-after = c .before .before .before .before in
-    let at-edge-at = at-place-after .before in
+    let at-edge-at = at-place-after .before .before in
     let at-loop-test = at-edge-at .before in
     let at-loop = at-loop-test .before in
     let s = at-loop .before .before .before .before .before .before in
-    let l = at-loop .loop in (
+    let l = at-loop .loop in
+    let i0 = l .inv .0 in
+    let i1 = l .inv .1 in
+    let i2 = l .inv .2 in
+    let taken = at-loop-test .loop-test .taken in (
       omega arith,
-      owning-next (s .pre .1) (l .inv .1) (s .pre .0 .below) (at-loop-test .loop-test .taken)
-          (next-event _ _ _ _ (at-loop-test .loop-test .taken) (at-edge-at .edge-at .ensures .is))
+      omega arith,
+      omega arith,
+      owning-next (s .pre .1) (l .inv .3) (s .pre .0 .below) taken
+          (next-event _ _ _ _ taken (at-edge-at .edge-at .ensures .is))
           (at-place-after .place-after .ensures) (c .before .before .write-edge .ensures),
     )
 
 same-length : tie.Need-same-length Inv-loop μ-loop
-same-length c = owning-length (c .before .loop .inv .1)
+same-length c = owning-length (c .before .loop .inv .3)
 
 returns : tie.Need-returns Inv-loop μ-loop
 returns c =
     let s = c .before .before .before .before .before .before .before in
     let l = c .before .loop in
     let z : l .left ≡ 0 = omega arith in
-    owning-end (s .pre .1) (l .inv .1) (s .pre .0 .below) z
+    owning-end (s .pre .1) (l .inv .3) (s .pre .0 .below) z
     (events-end (s .args .table .now) (s .args .states) (l .left) (l .j) z)
 
 pub write-own-spec : {M : Type 1} → statement M
