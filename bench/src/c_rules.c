@@ -4,6 +4,8 @@
      - a place's next place is computed anew each time, through its fallbacks, upwards from the chain's end;
      - a chain met again is read to its end, and so is the chain that it is compared with;
      - whether a state stands in the rest of a chain is asked of an array of seen states, fresh for each edge;
+     - when a place is opened, an event that leads from every state of its chain, and from the start, to where one of the
+       three events before it leads is passed over, as the chain after it was met; until eight events are not like that;
      - places and edges are counted first, and written afterwards;
      - what an event makes of the rest of a chain is then read from the image, as far as it is written.
    Everything else is as fast as could be made. COUNT_READS counts entries read, for the search of slow books. */
@@ -67,13 +69,45 @@ static uint32_t rest_after(const work *w, uint32_t p, uint32_t event, uint8_t se
     return rest;
 }
 
+/* Most states of a long chain have few edges, and none by either event. */
+static inline int leads_alike(const uint8_t *edge, uint32_t count, uint32_t a, uint32_t b) {
+    if (count <= 8) {
+        const uint8_t *at = edge, *end = edge + 4 * count;
+        while (at < end && *at != a && *at != b) at += 4;
+        if (at == end) return 1;
+    }
+    return lookup(edge, count, a) == lookup(edge, count, b);
+}
+
+/* Whether every state of p's chain but its head, and the start, leads by both events to the same state, or by both to
+   none. */
+static int alike(const work *w, uint32_t p, uint32_t a, uint32_t b) {
+    while (p) {
+        p = w->fallback[p];
+        READ();
+        uint32_t head = w->head[p];
+        if (!leads_alike(w->edges + 4 * w->first[head], edge_count(w, head), a, b)) return 0;
+    }
+    return 1;
+}
+
+/* Whether one of the three edges before edge j of p's head leads alike. */
+static int met_before(const work *w, uint32_t p, const uint8_t *first, uint32_t j) {
+    const uint8_t *edge = first + 4 * j;
+    for (uint32_t k = j > 3 ? j - 3 : 0; k < j; k++)
+        if (le16(first + 4 * k + 2) == le16(edge + 2) && alike(w, p, first[4 * k], edge[0])) return 1;
+    return 0;
+}
+
 /* Numbers the places breadth first: whether there are at most 1,024. */
 static int number_places(work *w) {
     uint8_t seen[512];
     for (uint32_t p = 0; p < w->places; p++) {
         uint32_t head = w->head[p], count = edge_count(w, head);
-        const uint8_t *edge = w->edges + 4 * w->first[head];
-        for (uint32_t j = 0; j < count; j++, edge += 4) {
+        const uint8_t *first = w->edges + 4 * w->first[head], *edge = first;
+        for (uint32_t j = 0, tries = 8; j < count; j++, edge += 4) {
+            if (tries && met_before(w, p, first, j)) continue;
+            if (tries) tries--;
             uint32_t state = le16(edge + 2), level = w->level[p] + 1u, rest = rest_after(w, p, edge[0], seen);
             if (seen[state] || find(w, state, level, rest)) continue;
             if (w->places == 1024) return 0;

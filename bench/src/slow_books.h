@@ -31,15 +31,29 @@ static inline void slow_tops(draft *d) {
     d->mark[at] = 1;
 }
 
-/* The slowest known: a line of 511 states, the first of which is one of two, as the last event decides. The chains of a
+/* A line of 511 states, the first of which is one of two, as the last event decides. The chains of a
    level differ in their last member alone, so that each is compared to its end with one that is not the same, and three events
    of four want the place that is compared last. */
-static inline void slow_found(draft *d) {
+static inline void slow_firsts(draft *d) {
     uint16_t usual = draft_state(d), other = draft_state(d), next = draft_state(d);
     for (uint32_t e = 0x20; e < 0x24; e++) {
         d->to[0][e] = e < 0x23 ? usual : other;
         d->to[usual][e] = d->to[other][e] = next;
     }
     d->mark[slow_on(d, next, 508, 4)] = 1;
+}
+
+/* The slowest known: a line of 511 states by four events, which are unlike at one state two thirds up, where three of them
+   skip a state, and at the top eleven. */
+static inline void slow_found(draft *d) {
+    d->mark[slow_on(d, 0, 511, 4)] = 1;
+    for (uint32_t e = 0; e < 4; e++) {
+        d->to[373][0x20 + e] = e == 2 ? 374 : 375;
+        d->to[374][0x20 + e] = 376;
+        for (uint32_t s = 500; s < 511; s++) {
+            const char *skips = s == 500 ? "0001" : s % 2 ? "1001" : "0000";
+            d->to[s][0x20 + e] = (uint16_t)(s + 1 + (skips[e] == '1'));
+        }
+    }
 }
 #endif

@@ -189,11 +189,12 @@ static void log_blowup(workload *w) {
     for (size_t i = 0; i < w->nlog; i++) w->log[i] = (uint8_t)(buffer_in + below(&luck, 2));
 }
 
-/* ---- s1 to s4: slow to compile under the rules of c-rules ---- */
+/* ---- s1 to s5: slow to compile under the rules of c-rules ---- */
 #include "slow_books.h"
 static void book_line(void) { slow_line(&made); }
 static void book_tower(void) { slow_tower(&made); }
 static void book_tops(void) { slow_tops(&made); }
+static void book_firsts(void) { slow_firsts(&made); }
 static void book_found(void) { slow_found(&made); }
 
 static const struct {
@@ -212,11 +213,12 @@ static const struct {
     {"s1-line511", "a line of 511 states by four like events", book_line, NULL},
     {"s2-tower500", "a line of 500 states with a tower of 9 bits on top", book_tower, NULL},
     {"s3-tops", "a line of 500 states by two events, four tops of 200 edges on it", book_tops, NULL},
-    {"s4-found", "the slowest found: a line of 511 states, the first one of two", book_found, NULL},
+    {"s4-firsts", "a line of 511 states, the first one of two", book_firsts, NULL},
+    {"s5-found", "the slowest found: a line of 511 states that events skip here and there", book_found, NULL},
 };
 const char *const workload_names[] = {"a-words60", "b-shared500", "c-wide200", "d1-deep64", "d2-deep500",
                                       "e1-noise",  "e2-idle",     "f-blowup",  NULL};
-const char *const slow_book_names[] = {"s1-line511", "s2-tower500", "s3-tops", "s4-found", NULL};
+const char *const slow_book_names[] = {"s1-line511", "s2-tower500", "s3-tops", "s4-firsts", "s5-found", NULL};
 
 /* ---- every word of a book, in byte order with a prefix first ---- */
 static uint8_t path[STATES_MOST];

@@ -1,9 +1,8 @@
 -- A chain is met: the arrays follow the list of the chains. `add-in`, `add-old`, `add-new`, `add-over`: q with the
--- reach r put on the chain of the place f. `edge-none`, `edge-some`: the chain of a place after an event. Assumes
--- nothing.
+-- reach r put on the chain of the place f. `edge-met`: the chain of a place after an event. Assumes nothing.
 use mathlib.Core.Path.{_≡_, sym, ap, _∙_, subst}
 use mathlib.Core.Logic.{_≢_}
-use mathlib.Core.Option.{none, some}
+use mathlib.Core.Option.{some}
 use mathlib.Core.List.{List, [], _∷_, _++_, List·Memᴰ}
 use Prim.Native.Nat.{ℕ, _+_, _≤_, _<_}
 use native.Mathlib.Omega.{arith}
@@ -14,9 +13,9 @@ use Rattle.meaning.specs.Book.{Book, delta}
 use Rattle.meaning.proofs.Cases.{by-bool}
 use Rattle.meaning.proofs.Places.{met-mem, mem-met, getD-mem, mem-getD}
 use Rattle.compile.specs.Work.{Rows, chainOf, listOf, Fit}
-use Rattle.compile.specs.Explore.{whole, restAfter, RestMet, Seen, RestAt, Finds, Pushed, Grown}
+use Rattle.compile.specs.Explore.{whole, restAfter, HasPlace, RestMet, Seen, RestAt, Finds, Pushed, Grown}
 use Rattle.compile.proofs.Rows.{length-list, list-at, longer, fit-longer, list-longer}
-use Rattle.compile.proofs.Seek.{seen-true, seen-false, step-of, step-some}
+use Rattle.compile.proofs.Seek.{seen-true, seen-false, step-some}
 
 -- a chain has a place exactly where it was met
 meet-old : (w : Rows) (n : ℕ) (d : Chain) (i : ℕ) → i < n → chainOf w i ≡ d → meet d (listOf w n) ≡ listOf w n
@@ -25,7 +24,7 @@ meet-old w n d i l e =
     let m = subst (λ (z : Chain). List·Memᴰ z (listOf w n)) (list-at w n i l ∙ e) (getD-mem (listOf w n) i (omega arith)) in
     rw (mem-met d (listOf w n) m)
 
-pub mem-place : (w : Rows) (n : ℕ) (d : Chain) → List·Memᴰ d (listOf w n) → (i : ℕ) × (i < n) × (chainOf w i ≡ d)
+pub mem-place : (w : Rows) (n : ℕ) (d : Chain) → List·Memᴰ d (listOf w n) → HasPlace w n d
 mem-place w n d m =
     let j = mem-getD d (listOf w n) m in
     let k = length-list w n in
@@ -41,7 +40,7 @@ meet-new w n d new =
     (λ e. rw e)
 
 module _ {newest earlier : List ℕ} {w : Rows} {n : ℕ} (F : Fit newest earlier w n) where
-  grown-same : (d : Chain) (i : ℕ) → i < n → chainOf w i ≡ d → Grown newest earlier w (meet d (listOf w n)) n
+  pub grown-same : (d : Chain) (i : ℕ) → i < n → chainOf w i ≡ d → Grown newest earlier w (meet d (listOf w n)) n
   grown-same d i l e =
       let k = F .held .few in
       record { over = λ h. absurd (let z : ⊥ = omega arith in z); fit = λ h. F; is = λ h. sym (meet-old w n d i l e) }
@@ -95,18 +94,12 @@ module _ {newest earlier : List ℕ} {w : Rows} {n : ℕ} (F : Fit newest earlie
     pub rest-seen : Seen seen (chainOf w f)
     rest-seen = rw rest-at (P .states (m .0) (m .1) (m .2))
 
-    pub edge-none : {h : ℕ} → h ≡ getD (w .heads) p 0 → delta B h a ≡ none
-        → Grown newest earlier w (meet (step (delta B) (chainOf w p) a) (listOf w n)) n
-    edge-none {h} g e =
-        grown-same (step (delta B) (chainOf w p) a) f (P .place .below)
-        (rest-at ∙ sym (step-of w n (F .held) (delta B) a p ∙ rw (← g, e)))
-
     -- what is added is the chain after the event
-    pub edge-some : {h l q : ℕ} → h ≡ getD (w .heads) p 0 → l ≡ getD (w .levels) p 0 → delta B h a ≡ some q
+    pub edge-met : {l q : ℕ} → l ≡ getD (w .levels) p 0 → delta B (getD (w .heads) p 0) a ≡ some q
         → {newest' earlier' : List ℕ} {w' : Rows} {n' : ℕ}
         → Grown newest' earlier' w' (meet (put (some q) (l + 1) (chainOf w f)) (listOf w n)) n'
         → Grown newest' earlier' w' (meet (step (delta B) (chainOf w p) a) (listOf w n)) n'
-    edge-some {h} {l} {q} g i e {newest'} {earlier'} {w'} {n'} G =
+    edge-met {l} {q} i e {newest'} {earlier'} {w'} {n'} G =
         let s : step (delta B) (chainOf w p) a ≡ put (some q) (l + 1) (chainOf w f) =
-        step-some w n (F .held) (delta B) a p q (ap (λ (y : ℕ). delta B y a) (sym g) ∙ e) ∙ rw (i, rest-at) in
+        step-some w n (F .held) (delta B) a p q e ∙ rw (i, rest-at) in
         rw s G

@@ -3,7 +3,7 @@
 -- nothing.
 use mathlib.Core.Path.{_≡_, refl, sym, ap, _∙_, subst}
 use mathlib.Core.Option.{none, some}
-use mathlib.Core.List.{List, [], _∷_}
+use mathlib.Core.List.{List, [], _∷_, List·Memᴰ}
 use Prim.Native.Nat.{ℕ, zero, suc, _+_, _*_, _-_, _≤_, _<_}
 use native.Mathlib.Omega.{arith}
 use lib.ListN.{length, getD, length-append, List·getD-append}
@@ -22,9 +22,10 @@ use Rattle.meaning.proofs.Numbering.{Opening, opening-under, Loop, loop-start, 
 use Rattle.meaning.proofs.Rules.{whole-rule}
 use Rattle.meaning.proofs.Places.{opening-meet, loop-opened}
 use Rattle.compile.specs.Work.{Rows, chainOf, listOf, Fit}
-use Rattle.compile.specs.Explore.{whole, restAfter, RestMet, Grown, Opened, start, next, Explored}
+use Rattle.compile.specs.Explore.{whole, restAfter, HasPlace, RestMet, Grown, Opened, start, next, Explored}
 use Rattle.compile.proofs.Rows.{length-list, list-at, list-one}
 use Rattle.compile.proofs.Seek.{head-of}
+use Rattle.compile.proofs.Meet.{mem-place}
 
 -- lists only grow, and keep what they have
 meet-longer : (d : Chain) (L : List Chain) → length L ≤ length (meet d L)
@@ -167,6 +168,30 @@ module _ {B : Book} {p : ℕ} {c : Chain} {M : List Chain} {es newest earlier : 
           opening = o;
           to-meet = left ∙ ap (λ (z : List Chain). meetAll (delta B) c fs z) (sym e);
         }
+
+    -- what had a place keeps it, and the chain that was met has one
+    pub place-kept : n' ≤ 1024 → {d : Chain} → HasPlace w n d → HasPlace w' n' d
+    place-kept l h =
+        let e = next-list l in
+        let d = step (delta B) c a in
+        let k = length-list w n in
+        let k' = length-list w' n' in
+        let m = meet-longer d (listOf w n) in
+        let s = ap length e in
+        let b = h .1 in
+        let i = h .0 in
+        let b' : i < n' = omega arith in (
+          i,
+          b',
+          sym (list-at w' n' i b') ∙ ap (λ (z : List Chain). getD z i []) e ∙ meet-kept d (listOf w n) i (omega arith)
+              ∙ list-at w n i b ∙ h .2,
+        )
+
+    pub place-met : n' ≤ 1024 → HasPlace w' n' (step (delta B) c a)
+    place-met l =
+        mem-place w' n' (step (delta B) c a)
+        (subst (λ (z : List Chain). List·Memᴰ (step (delta B) c a) z) (sym (next-list l))
+        (opening-meet (delta B) c p (listOf w n) (O .opening) a .2))
 
     pub meeting-over : 1024 < n' → Grown newest' earlier' w' M n'
     meeting-over l =

@@ -33,7 +33,7 @@ use Rattle.compile.specs.Explore.{whole, restAfter, Ready, IsPlace, Find
 use Rattle.compile.specs.Bytes.{edgeRecord, spread, placeOf, placesBelow, edgesFor, edgesOf, edgesBelow}
 use Rattle.compile.specs.Write.{Numbered, EdgesAre, Wrote, edgeEnd, Known, Starts, EdgeNumber, RestIs}
 use Rattle.compile.proofs.Rows.{length-list, list-at, chain-zero, getD-zeros}
-use Rattle.compile.proofs.Seek.{head-of, rest-zero, rest-cons, step-of, step-some}
+use Rattle.compile.proofs.Seek.{head-of, rest-start, rest-next, step-of, step-some}
 use Rattle.compile.proofs.Leading.{own}
 use Rattle.compile.proofs.Written.{sets-below}
 use Rattle.compile.proofs.Records.{Owning, Edging, length-places, length-edges, edge-bytes, numbers}
@@ -195,12 +195,12 @@ pub record Walking (B : Book) (w : Rows) (p a g : ℕ) : Type 0 where
 module _ {B : Book} {w : Rows} {n : ℕ} (N : Numbered B w n) {p : ℕ} (a : ℕ) where
   pub rest-none : p ≡ 0 → RestIs B w n p a 0
   rest-none z =
-      record { below = N .held .some-place; is = chain-zero w ∙ sym (rest-zero w n (N .held) (delta B) a p z) }
+      record { below = N .held .some-place; is = chain-zero w ∙ sym (rest-start w (delta B) a p z) }
 
   pub walking-start : {f : ℕ} → p ≢ 0 → f ≡ getD (w .fallbacks) p 0 → Walking B w p a f
   walking-start {f} z e =
       let d = N .held .fallbacks-down p (omega arith) in
-      record { low = omega arith; same = rest-cons w n (N .held) (delta B) a p f z e }
+      record { low = omega arith; same = rest-next w (N .held .fallbacks-down) (delta B) a p f z e }
 
 module _ {B : Book} {w : Rows} {n : ℕ} (N : Numbered B w n) {p a g : ℕ} (F : Walking B w p a g) where
   pub walking-end : {r : ℕ} {row : List ℕ} → g ≡ 0 → (0 < p → Starts B w n row) → a < 256 → r ≡ getD row a 0
@@ -225,7 +225,7 @@ module _ {B : Book} {w : Rows} {n : ℕ} (N : Numbered B w n) {p a g : ℕ} (F :
         record {
           low = omega arith;
           same =
-              F .same ∙ step-of w n (N .held) (delta B) a g ∙ rw m' (rest-cons w n (N .held) (delta B) a g f z e);
+              F .same ∙ step-of w n (N .held) (delta B) a g ∙ rw m' (rest-next w (N .held .fallbacks-down) (delta B) a g f z e);
         }
 
     pub walking-found : {i r : ℕ} {d : List ℕ} → Known B w n p d → p < n

@@ -1,7 +1,6 @@
 -- The search for the place of a chain, over any key that tells chains apart. `head-of`, `level-of`, `step-of`: what
 -- the rows say of a place's chain. `seek-start` .. `seek-end`: the places of a head, newest first, are passed until
--- one has the chain. `settle-in`, `settle-new`, `target-none`, `target-some`: the place after an event, from that of
--- the rest. Assumes nothing.
+-- one has the chain. `settle-in`, `settle-new`: the place of a chain with one more state put in front. Assumes nothing.
 use mathlib.Core.Path.{_≡_, refl, sym, ap, _∙_, subst}
 use mathlib.Core.Logic.{_≢_}
 use mathlib.Core.Bool.{Bool, true, false}
@@ -18,7 +17,7 @@ use Rattle.meaning.specs.Places.{sameChain}
 use Rattle.meaning.proofs.Cases.{by-bool, by-eq, by-order, true-false}
 use Rattle.meaning.proofs.Keys.{Rule, sameChain-iff}
 use Rattle.meaning.proofs.Rules.{whole-rule}
-use Rattle.compile.specs.Work.{Rows, chainOf, Latest, Held, Fit}
+use Rattle.compile.specs.Work.{Rows, Down, chainOf, Latest, Held, Fit}
 use Rattle.compile.specs.Explore.{Key, whole, restAfter, Seen, IsSeen, Settled, Finds}
 use Rattle.compile.proofs.Rows.{chain-zero, chain-cons}
 
@@ -29,28 +28,36 @@ pub step-put : (δ : Delta) (c : Chain) (a : ℕ) → step δ c a ≡ put (δ (h
 step-put δ [] a = refl
 step-put δ (x ∷ c) a = refl
 
-module _ (w : Rows) (n : ℕ) (H : Held w n) where
-  pub head-of : (p : ℕ) → head (chainOf w p) ≡ getD (w .heads) p 0
-  head-of p =
-      by-eq p 0 (λ e. rw (e, chain-zero w) (sym (H .head-zero)))
-      (λ e. rw (chain-cons w (H .fallbacks-down) p (omega arith)))
+-- of the place 0 there is no rest, and its head is the start; of any other the rest is the chain of its fallback
+pub rest-start : (w : Rows) (δ : Delta) (a p : ℕ) → p ≡ 0 → restAfter δ (chainOf w p) a ≡ []
+rest-start w δ a p e = rw (e, chain-zero w)
 
-  pub level-of : (p : ℕ) → level (chainOf w p) ≡ getD (w .levels) p 0
-  level-of p =
-      by-eq p 0 (λ e. rw (e, chain-zero w) (sym (H .level-zero)))
-      (λ e. rw (chain-cons w (H .fallbacks-down) p (omega arith)))
-
-  pub rest-zero : (δ : Delta) (a p : ℕ) → p ≡ 0 → restAfter δ (chainOf w p) a ≡ []
-  rest-zero δ a p e = rw (e, chain-zero w)
-
-  pub rest-cons : (δ : Delta) (a p f : ℕ) → p ≢ 0 → f ≡ getD (w .fallbacks) p 0
+module _ (w : Rows) (d : Down (w .fallbacks)) where
+  pub rest-next : (δ : Delta) (a p f : ℕ) → p ≢ 0 → f ≡ getD (w .fallbacks) p 0
       → restAfter δ (chainOf w p) a ≡ step δ (chainOf w f) a
-  rest-cons δ a p f l e = rw (e, chain-cons w (H .fallbacks-down) p (omega arith))
+  rest-next δ a p f l e = rw (e, chain-cons w d p (omega arith))
+
+  pub head-at : getD (w .heads) 0 0 ≡ 0 → (p : ℕ) → head (chainOf w p) ≡ getD (w .heads) p 0
+  head-at s p = by-eq p 0 (λ e. rw (e, chain-zero w) (sym s)) (λ e. rw (chain-cons w d p (omega arith)))
+
+  level-at : getD (w .levels) 0 0 ≡ 0 → (p : ℕ) → level (chainOf w p) ≡ getD (w .levels) p 0
+  level-at s p = by-eq p 0 (λ e. rw (e, chain-zero w) (sym s)) (λ e. rw (chain-cons w d p (omega arith)))
 
   -- the head's own target, put on what the event makes of the rest
+  pub step-at : getD (w .heads) 0 0 ≡ 0 → getD (w .levels) 0 0 ≡ 0 → (δ : Delta) (a p : ℕ)
+      → step δ (chainOf w p) a ≡ put (δ (getD (w .heads) p 0) a) (suc (getD (w .levels) p 0)) (restAfter δ (chainOf w p) a)
+  step-at s z δ a p = rw (← head-at s p, ← level-at z p) (step-put δ (chainOf w p) a)
+
+module _ (w : Rows) (n : ℕ) (H : Held w n) where
+  pub head-of : (p : ℕ) → head (chainOf w p) ≡ getD (w .heads) p 0
+  head-of = head-at w (H .fallbacks-down) (H .head-zero)
+
+  pub level-of : (p : ℕ) → level (chainOf w p) ≡ getD (w .levels) p 0
+  level-of = level-at w (H .fallbacks-down) (H .level-zero)
+
   pub step-of : (δ : Delta) (a p : ℕ)
       → step δ (chainOf w p) a ≡ put (δ (getD (w .heads) p 0) a) (suc (getD (w .levels) p 0)) (restAfter δ (chainOf w p) a)
-  step-of δ a p = rw (← head-of p, ← level-of p) (step-put δ (chainOf w p) a)
+  step-of = step-at w (H .fallbacks-down) (H .head-zero) (H .level-zero)
 
   pub step-some : (δ : Delta) (a p q : ℕ) → δ (getD (w .heads) p 0) a ≡ some q
       → step δ (chainOf w p) a ≡ put (some q) (getD (w .levels) p 0 + 1) (restAfter δ (chainOf w p) a)
@@ -214,24 +221,11 @@ module _ (key : Key) (δ : Delta) (R : Rule key δ) (newest earlier : List ℕ) 
               };
         }
 
-  -- the place after an event, from that of the rest: where the head has no edge, and where it has one
-  pub target-none : (a p f : ℕ) (seen : List ℕ) → IsSeen key w n (restAfter δ (chainOf w p) a) f seen
-      → δ (getD (w .heads) p 0) a ≡ none → IsSeen key w n (step δ (chainOf w p) a) f seen
-  target-none a p f seen P e = rw (step-of w n (F .held) δ a p, e) P
-
-  pub target-some : (a p q f k : ℕ) (seen seen' : List ℕ) → IsSeen key w n (restAfter δ (chainOf w p) a) f seen
-      → δ (getD (w .heads) p 0) a ≡ some q → (l : ℕ) → l ≡ getD (w .levels) p 0
-      → Settled key w n q (l + 1) f seen k seen' → IsSeen key w n (step δ (chainOf w p) a) k seen'
-  target-some a p q f k seen seen' P e l g S =
-      subst (λ (z : Chain). IsSeen key w n z k seen')
-      (sym (step-some w n (F .held) δ a p q e
-      ∙ ap (λ (y : ℕ). put (some q) (y + 1) (restAfter δ (chainOf w p) a)) (sym g)))
-      (S .on (restAfter δ (chainOf w p) a) P)
-
-  -- at the chain's end nothing is left, and nothing seen
-  pub rest-end : (a p : ℕ) (seen : List ℕ) → p ≡ 0 → Seen seen [] → IsSeen key w n (restAfter δ (chainOf w p) a) 0 seen
+  -- where nothing is left nothing is seen
+  pub rest-end : (a p : ℕ) (seen : List ℕ) → restAfter δ (chainOf w p) a ≡ [] → Seen seen []
+      → IsSeen key w n (restAfter δ (chainOf w p) a) 0 seen
   rest-end a p seen e M =
-      rw (rest-zero w n (F .held) δ a p e)
+      rw e
       (record { place = record { below = F .held .some-place; is = λ i l f. ap key (chain-zero w) }; states = λ i l f. M })
 
 -- the search that reads both chains to their ends: no event is looked at

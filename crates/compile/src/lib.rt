@@ -42,7 +42,7 @@ fn compile_table(table: &[u8], states: usize, out: &mut [u8]) -> Compiled
     let mut earlier = [0u16; 1024];
     let mut heads = [0u16; 1024];
     let mut levels = [0u16; 1024];
-    let mut fallbacks = [0u16; 1024];
+    let mut fallbacks = [0usize; 1024];
     let counts = explore(
         table,
         states,

@@ -30,12 +30,21 @@ pub(crate) fn entry(t: &[u16; 1024], place: usize) -> usize
     wide(t[place])
 }
 
+// The fallback of a place. A chain is read from fallback to fallback, each to be had before the next can be read: a whole
+// word is there at once, where half of one has still to be widened.
+pub(crate) fn below(t: &[usize; 1024], place: usize) -> usize
+    requires { ⌜ place < 1024 ⌝ }
+    ensures { λ r. ⌜ r ≡ getD (now (t .entry)) place 0 ⌝ }
+{
+    t[place]
+}
+
 // Whether the chain of the place p is the state head with the level, and then the chain of the place rest: both
 // chains are read to their ends.
 fn same_chain(
     heads: &[u16; 1024],
     levels: &[u16; 1024],
-    fallbacks: &[u16; 1024],
+    fallbacks: &[usize; 1024],
     p: usize,
     head: usize,
     level: usize,
@@ -51,7 +60,7 @@ fn same_chain(
     if entry(levels, p) != level {
         return false;
     }
-    let mut a = entry(fallbacks, p);
+    let mut a = below(fallbacks, p);
     let mut b = rest;
     while a != 0 {
         if b == 0 {
@@ -63,8 +72,8 @@ fn same_chain(
         if entry(levels, a) != entry(levels, b) {
             return false;
         }
-        a = entry(fallbacks, a);
-        b = entry(fallbacks, b);
+        a = below(fallbacks, a);
+        b = below(fallbacks, b);
     }
     b == 0
 }
@@ -76,7 +85,7 @@ pub(crate) fn find(
     earlier: &[u16; 1024],
     heads: &[u16; 1024],
     levels: &[u16; 1024],
-    fallbacks: &[u16; 1024],
+    fallbacks: &[usize; 1024],
     n: usize,
     head: usize,
     level: usize,
@@ -101,13 +110,13 @@ fn push(
     earlier: &mut [u16; 1024],
     heads: &mut [u16; 1024],
     levels: &mut [u16; 1024],
-    fallbacks: &mut [u16; 1024],
+    fallbacks: &mut [usize; 1024],
     n: usize,
     head: usize,
     level: usize,
     rest: usize,
 )
-    requires { ⌜ (n < 1024) × (head < 512) × (level < 65536) × (rest < 65536) ⌝ }
+    requires { ⌜ (n < 1024) × (head < 512) × (level < 65536) ⌝ }
     ensures { λ r. ⌜ Pushed (now (newest .entry)) (now (earlier .entry))
         (rows (now (heads .entry)) (now (levels .entry)) (now (fallbacks .entry))) n head level rest
         (now (newest .exit)) (now (earlier .exit)) (rows (now (heads .exit)) (now (levels .exit)) (now (fallbacks .exit))) ⌝ }
@@ -116,7 +125,7 @@ fn push(
     newest[head] = n as u16;
     heads[n] = head as u16;
     levels[n] = level as u16;
-    fallbacks[n] = rest as u16;
+    fallbacks[n] = rest;
 }
 
 // The states of the empty chain: the start stands at the end of every chain.
@@ -135,7 +144,7 @@ pub(crate) fn settle(
     earlier: &[u16; 1024],
     heads: &[u16; 1024],
     levels: &[u16; 1024],
-    fallbacks: &[u16; 1024],
+    fallbacks: &[usize; 1024],
     n: usize,
     head: usize,
     level: usize,
@@ -170,7 +179,7 @@ pub(crate) fn add(
     earlier: &mut [u16; 1024],
     heads: &mut [u16; 1024],
     levels: &mut [u16; 1024],
-    fallbacks: &mut [u16; 1024],
+    fallbacks: &mut [usize; 1024],
     n: usize,
     head: usize,
     level: usize,

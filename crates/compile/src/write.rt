@@ -15,6 +15,7 @@ ghost use Rattle.compile.specs.Bytes.{placeRecord, edgeRecord, trailerOf
 ghost use Rattle.compile.specs.Bytes.{edgesBelow, imageBytes};
 ghost use Rattle.compile.specs.Write.{Numbered, EdgesAre, LinkIs, Wrote, edgeEnd, Known, Starts, EdgeNumber};
 ghost use Rattle.compile.specs.Write.{RestIs};
+use crate::work::below;
 use crate::work::entry;
 use crate::work::find;
 use crate::work::of_head;
@@ -79,7 +80,7 @@ fn link_of(
     states: usize,
     heads: &[u16; 1024],
     levels: &[u16; 1024],
-    fallbacks: &[u16; 1024],
+    fallbacks: &[usize; 1024],
     p: usize,
 ) -> usize
     requires { ⌜ Down (now fallbacks) × (p < 1024) ⌝ }
@@ -91,7 +92,7 @@ fn link_of(
         if book::mark_of(table, states, entry(heads, p)) != 0 {
             return p;
         }
-        p = entry(fallbacks, p);
+        p = below(fallbacks, p);
     }
     0
 }
@@ -102,7 +103,7 @@ fn write_places(
     states: usize,
     heads: &[u16; 1024],
     levels: &[u16; 1024],
-    fallbacks: &[u16; 1024],
+    fallbacks: &[usize; 1024],
     n: usize,
     out: &mut [u8],
 ) -> usize
@@ -124,7 +125,7 @@ fn write_places(
             at,
             edges,
             count,
-            entry(fallbacks, p),
+            below(fallbacks, p),
             entry(levels, p),
             head,
             link,
@@ -153,7 +154,7 @@ fn start_row(
     first: &[u16; 512],
     heads: &[u16; 1024],
     levels: &[u16; 1024],
-    fallbacks: &[u16; 1024],
+    fallbacks: &[usize; 1024],
     n: usize,
     out: &[u8],
 ) -> [u16; 256]
@@ -215,7 +216,7 @@ fn rest_of(
     first: &[u16; 512],
     heads: &[u16; 1024],
     levels: &[u16; 1024],
-    fallbacks: &[u16; 1024],
+    fallbacks: &[usize; 1024],
     start: &[u16; 256],
     n: usize,
     p: usize,
@@ -233,7 +234,7 @@ fn rest_of(
     if p == 0 {
         return 0;
     }
-    let mut g = entry(fallbacks, p);
+    let mut g = below(fallbacks, p);
     while g != 0 {
         let head = entry(heads, g);
         let count = book::count_of(table, states, head);
@@ -241,7 +242,7 @@ fn rest_of(
         if i < count {
             return written_target(out, n, g, i);
         }
-        g = entry(fallbacks, g);
+        g = below(fallbacks, g);
     }
     of_event(start, event)
 }
@@ -256,7 +257,7 @@ fn place_after(
     earlier: &[u16; 1024],
     heads: &[u16; 1024],
     levels: &[u16; 1024],
-    fallbacks: &[u16; 1024],
+    fallbacks: &[usize; 1024],
     start: &[u16; 256],
     n: usize,
     p: usize,
@@ -310,7 +311,7 @@ fn write_own(
     earlier: &[u16; 1024],
     heads: &[u16; 1024],
     levels: &[u16; 1024],
-    fallbacks: &[u16; 1024],
+    fallbacks: &[usize; 1024],
     start: &[u16; 256],
     n: usize,
     p: usize,
@@ -366,7 +367,7 @@ fn write_edges(
     earlier: &[u16; 1024],
     heads: &[u16; 1024],
     levels: &[u16; 1024],
-    fallbacks: &[u16; 1024],
+    fallbacks: &[usize; 1024],
     n: usize,
     out: &mut [u8],
     at: usize,
@@ -427,7 +428,7 @@ pub(crate) fn write_image(
     earlier: &[u16; 1024],
     heads: &[u16; 1024],
     levels: &[u16; 1024],
-    fallbacks: &[u16; 1024],
+    fallbacks: &[usize; 1024],
     n: usize,
     edges: usize,
     out: &mut [u8],

@@ -32,14 +32,14 @@ returns c =
     (c .before .before .before .before .loop .inv .1) (c .before .before .before .loop-test .taken)
     (c .before .before .entry .ensures .0) (c .before .mark-of .ensures .is) (c .if1 .taken)
 
-entry-requires-2 : tie.Need-entry-requires-2 Inv-loop μ-loop
-entry-requires-2 c κs = search needs
+below-requires : tie.Need-below-requires Inv-loop μ-loop
+below-requires c κs = search needs
 
 loop-less : tie.Need-loop-less Inv-loop μ-loop
 loop-less c =
     let at-loop-test = c .before .before .before .before in
     let at-start = at-loop-test .before .before .before in
-    lower (at-start .args .fallbacks .now) (at-start .pre .0) (at-loop-test .loop-test .taken) (c .entry2 .ensures .0)
+    lower (at-start .args .fallbacks .now) (at-start .pre .0) (at-loop-test .loop-test .taken) (c .below .ensures)
 
 loop-again : tie.Need-loop-again Inv-loop μ-loop
 loop-again c =
@@ -48,12 +48,12 @@ loop-again c =
     let at-loop = at-loop-test .before in
     let at-start = at-loop .before .before in
     let d =
-    lower (at-start .args .fallbacks .now) (at-start .pre .0) (at-loop-test .loop-test .taken) (c .entry2 .ensures .0)
+    lower (at-start .args .fallbacks .now) (at-start .pre .0) (at-loop-test .loop-test .taken) (c .below .ensures)
     in (
       omega arith,
       link-on (at-start .pre .0) (at-loop .loop .inv .1) (at-loop-test .loop-test .taken) (at-entry .entry .ensures .0)
           (c .before .before .mark-of .ensures .is) (c .before .if1 .left)
-          (c .entry2 .ensures .0),
+          (c .below .ensures),
     )
 
 returns-2 : tie.Need-returns-2 Inv-loop μ-loop
@@ -69,7 +69,7 @@ link-of-spec =
     entry-requires
     mark-of-requires
     returns
-    entry-requires-2
+    below-requires
     loop-less
     loop-again
     returns-2)

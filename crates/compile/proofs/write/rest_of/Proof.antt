@@ -22,8 +22,8 @@ returns c =
     let at-start = c .before .before .before in
     rest-none (at-start .pre .1) (at-start .args .event) (c .if1 .taken)
 
-entry-requires : tie.Need-entry-requires Inv-loop μ-loop
-entry-requires c κs =
+below-requires : tie.Need-below-requires Inv-loop μ-loop
+below-requires c κs =
     let at-start = c .before .before .before in
     let few = at-start .pre .1 .held .few in
     let below = at-start .pre .4 in
@@ -32,10 +32,10 @@ entry-requires c κs =
 loop-holds : tie.Need-loop-holds Inv-loop μ-loop
 loop-holds c =
     let at-start = c .before .before .before .before in
-    walking-start (at-start .pre .1) (at-start .args .event) (c .before .if1 .left) (c .entry .ensures .0)
+    walking-start (at-start .pre .1) (at-start .args .event) (c .before .if1 .left) (c .below .ensures)
 
-entry-requires-2 : tie.Need-entry-requires-2 Inv-loop μ-loop
-entry-requires-2 c κs =
+entry-requires : tie.Need-entry-requires Inv-loop μ-loop
+entry-requires c κs =
     let at-loop = c .before in
     let at-start = at-loop .before .before .before .before .before in
     place-low (at-start .pre .1) (at-start .pre .4) (at-loop .loop .inv .low)
@@ -45,18 +45,18 @@ count-of-requires c κs = search needs
 
 of-head-requires : tie.Need-of-head-requires Inv-loop μ-loop
 of-head-requires c κs =
-    let at-entry2 = c .before in
-    let at-start = at-entry2 .before .before .before .before .before .before .before in
-    head-low (at-start .pre .1) _ (at-entry2 .entry2 .ensures .0)
+    let at-entry = c .before in
+    let at-start = at-entry .before .before .before .before .before .before .before in
+    head-low (at-start .pre .1) _ (at-entry .entry .ensures .0)
 
 edge-of-requires : tie.Need-edge-of-requires Inv-loop μ-loop
 edge-of-requires c κs =
-    let at-entry2 = c .before .before in
-    let s = at-entry2 .before .before .before .before .before .before .before in
+    let at-entry = c .before .before in
+    let s = at-entry .before .before .before .before .before .before .before in
     let few = c .before .count-of .ensures .small in
     let low = c .of-head .ensures .1 in (
       omega arith,
-      edges-rise (s .pre .0) (head-low (s .pre .1) _ (at-entry2 .entry2 .ensures .0)) (c .before .count-of .ensures .is)
+      edges-rise (s .pre .0) (head-low (s .pre .1) _ (at-entry .entry .ensures .0)) (c .before .count-of .ensures .is)
           (c .of-head .ensures .0),
     )
 
@@ -76,36 +76,36 @@ returns-2 c =
     let at-edge-of = c .before .before in
     let at-of-head = at-edge-of .before in
     let at-count-of = at-of-head .before in
-    let at-entry2 = at-count-of .before in
-    let at-loop = at-entry2 .before .before in
+    let at-entry = at-count-of .before in
+    let at-loop = at-entry .before .before in
     let s = at-loop .before .before .before .before .before in
-    let head = at-entry2 .entry2 .ensures .0 in
+    let head = at-entry .entry .ensures .0 in
     walking-found (s .pre .1) (at-loop .loop .inv) head (s .pre .2) (s .pre .4)
     (edges-some (s .pre .0) (head-low (s .pre .1) _ head) (at-count-of .count-of .ensures .is)
     (at-of-head .of-head .ensures .0) (at-edge-of .edge-of .ensures) (c .before .if2 .taken))
     (c .written-target .ensures .is)
 
-entry-requires-3 : tie.Need-entry-requires-3 Inv-loop μ-loop
-entry-requires-3 c κs = search needs
+below-requires-2 : tie.Need-below-requires-2 Inv-loop μ-loop
+below-requires-2 c κs = search needs
 
 loop-less : tie.Need-loop-less Inv-loop μ-loop
 loop-less c =
     let at-loop-test = c .before .before .before .before .before .before in
     let s = at-loop-test .before .before .before .before .before .before in
     lower (s .args .fallbacks .now) (s .pre .1 .held .fallbacks-down) (at-loop-test .loop-test .taken)
-    (c .entry3 .ensures .0)
+    (c .below2 .ensures)
 
 loop-again : tie.Need-loop-again Inv-loop μ-loop
 loop-again c =
     let at-edge-of = c .before .before in
     let at-of-head = at-edge-of .before in
     let at-count-of = at-of-head .before in
-    let at-entry2 = at-count-of .before in
-    let at-loop-test = at-entry2 .before in
+    let at-entry = at-count-of .before in
+    let at-loop-test = at-entry .before in
     let at-loop = at-loop-test .before in
     let s = at-loop .before .before .before .before .before in
-    let head = at-entry2 .entry2 .ensures .0 in
-    walking-on (s .pre .1) (at-loop .loop .inv) head (at-loop-test .loop-test .taken) (c .entry3 .ensures .0)
+    let head = at-entry .entry .ensures .0 in
+    walking-on (s .pre .1) (at-loop .loop .inv) head (at-loop-test .loop-test .taken) (c .below2 .ensures)
     (edges-none (s .pre .0) (head-low (s .pre .1) _ head) (at-count-of .count-of .ensures .is)
     (at-of-head .of-head .ensures .0) (at-edge-of .edge-of .ensures) (c .before .if2 .left))
 
@@ -126,15 +126,15 @@ rest-of-spec =
     Inv-loop
     μ-loop
     returns
-    entry-requires
+    below-requires
     loop-holds
-    entry-requires-2
+    entry-requires
     count-of-requires
     of-head-requires
     edge-of-requires
     written-target-requires
     returns-2
-    entry-requires-3
+    below-requires-2
     loop-less
     loop-again
     of-event-requires

@@ -32,11 +32,11 @@ link-of-requires c κs =
 mark-of-requires : tie.Need-mark-of-requires Inv-loop μ-loop
 mark-of-requires c κs = search needs
 
+below-requires : tie.Need-below-requires Inv-loop μ-loop
+below-requires c κs = search needs
+
 entry-requires-2 : tie.Need-entry-requires-2 Inv-loop μ-loop
 entry-requires-2 c κs = search needs
-
-entry-requires-3 : tie.Need-entry-requires-3 Inv-loop μ-loop
-entry-requires-3 c κs = search needs
 
 write-place-requires : tie.Need-write-place-requires Inv-loop μ-loop
 write-place-requires c κs =
@@ -74,9 +74,9 @@ loop-less c = search needs
 
 loop-again : tie.Need-loop-again Inv-loop μ-loop
 loop-again c =
-    let at-entry3 = c .before .before .before in
-    let at-entry2 = at-entry3 .before in
-    let at-mark-of = at-entry2 .before .before in
+    let at-entry2 = c .before .before .before in
+    let at-below = at-entry2 .before in
+    let at-mark-of = at-below .before .before in
     let at-link-of = at-mark-of .before in
     let at-count-of = at-link-of .before in
     let at-entry = at-count-of .before in
@@ -85,7 +85,7 @@ loop-again c =
     let at-start = at-loop .before .before .before in
     placing-next (at-start .pre) (at-loop .loop .inv) (at-loop-test .loop-test .taken) (at-entry .entry .ensures .0)
     (at-count-of .count-of .ensures .is)
-    (at-entry2 .entry2 .ensures .0) (at-entry3 .entry3 .ensures .0) (at-link-of .link-of .ensures)
+    (at-below .below .ensures) (at-entry2 .entry2 .ensures .0) (at-link-of .link-of .ensures)
     (at-mark-of .mark-of .ensures .is) (c .before .before .write-place .ensures)
 
 same-length : tie.Need-same-length Inv-loop μ-loop
@@ -105,8 +105,8 @@ write-places-spec =
     count-of-requires
     link-of-requires
     mark-of-requires
+    below-requires
     entry-requires-2
-    entry-requires-3
     write-place-requires
     add-edges
     add-at
