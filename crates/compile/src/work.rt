@@ -30,8 +30,8 @@ pub(crate) fn entry(t: &[u16; 1024], place: usize) -> usize
     wide(t[place])
 }
 
-// The fallback of a place. A chain is read from fallback to fallback, each to be had before the next can be read: a whole
-// word is there at once, where half of one has still to be widened.
+// The fallback of a place. A chain is read from fallback to fallback, and none can be read before the one above it is there:
+// a whole word is ready as it comes, and a narrower number has still to be widened.
 pub(crate) fn below(t: &[usize; 1024], place: usize) -> usize
     requires { ⌜ place < 1024 ⌝ }
     ensures { λ r. ⌜ r ≡ getD (now (t .entry)) place 0 ⌝ }

@@ -4,12 +4,10 @@
 --   decided-both        the same, and the memory is equated with a definition
 --   byte, number, state-record, edge-record, wrote     the contract is a record that does so, its answer's bounds besides
 -- Assumes nothing.
-use mathlib.Core.Path.{_≡_, refl, sym, ap, _∙_}
-use mathlib.Core.List.{List, [], _∷_}
+use mathlib.Core.Path.{_≡_, sym, _∙_}
+use mathlib.Core.List.{List}
 use Prim.Native.Nat.{ℕ}
-use denote.Ref.{RefT, now}
 use Rattle.wire.specs.Little.{ByteIs, NumberIs}
-use Rattle.meaning.specs.Answer.{Answer}
 use Rattle.book.specs.Model.{ledTo}
 use Rattle.book.specs.Rules.{told as toldBook}
 use Rattle.book.specs.Reads.{StateIs, EdgeIs}

@@ -9,7 +9,6 @@
 -- Assumes nothing.
 use mathlib.Core.Path.{_≡_, refl, sym, ap, _∙_}
 use mathlib.Core.Logic.{_≢_}
-use mathlib.Core.Bool.{Bool, true, false}
 use mathlib.Core.Option.{Option, none, some}
 use mathlib.Core.List.{List}
 use Prim.Native.Nat.{ℕ, zero, suc, _+_, _*_, _-_, _/_, _%_, _≤_, _<_}
@@ -17,9 +16,8 @@ use native.Mathlib.Nat.{zero-add, mul-zero, mul-suc, mul-le-mul-left, mul-le-mul
 use native.Mathlib.Omega.{arith}
 use lib.ListN.{length, getD, set, replicate, getD-replicate, length-replicate, length-set}
 use lib.Seq.{getD-set-same, getD-set-other}
-use lib.Dec.{eqb}
 use borrow.Author.Tests.{eq-eqb, ne-eqb}
-use Rattle.meaning.specs.Choice.{when, then}
+use Rattle.meaning.specs.Choice.{then}
 use Rattle.meaning.specs.Questions.{Image, edgeOf}
 use Rattle.meaning.specs.Walk.{Stand, stand, take-edge, failing, next}
 use Rattle.meaning.proofs.Cases.{by-eq}
@@ -29,7 +27,8 @@ use Rattle.image.specs.Questions.{seek, questionsAt}
 use Rattle.image.specs.Held.{MovedIs}
 use Rattle.image.specs.Steps.{StepAt, IsSteps, IsClasses, Copied, ledBy, Owned}
 use Rattle.image.proofs.Accepted.{Facts, levels}
-use Rattle.image.proofs.Seek.{seek-step, seek-end}
+use Rattle.image.proofs.Seek.{seek-end}
+use Rattle.image.proofs.Tables.{led-step}
 
 -- ---- the classes
 -- j edges passed, n classes so far
@@ -145,10 +144,6 @@ module _ (E : ℕ → EdgeRecord) where
         at = λ a b. rw (seek-end E a n j z);
       }
 
-  led-when : (b : Bool) (j r : ℕ) (o : Option ℕ) → ledBy E (when b (some j) o) r ≡ when b (E j .target) (ledBy E o r)
-  led-when true j r o = refl
-  led-when false j r o = refl
-
   module _ (t m : ℕ) (classes : List ℕ) (C : IsClasses E t m classes) where
     own-put : (n j row w g : ℕ) (old new : List ℕ) → Owned E n (j + 1) row classes old new → j < t → w < 256
         → w ≡ E j .event → g ≡ E j .target → g < 65536 → row + m ≤ length old
@@ -166,10 +161,7 @@ module _ (E : ℕ → EdgeRecord) where
               (λ ne. rw (getD-set-other new at k g 0 ne) (O .small k h l b));
           at = λ a b.
               let old-at = getD old (row + getD classes a 0) 0 in
-              let e : n + 1 - 1 ≡ n = omega arith in
-              let step : ledBy E (seek E a (n + 1) j) old-at ≡ when (eqb w a) g (ledBy E (seek E a n (j + 1)) old-at)
-              = rw (seek-step E a (n + 1) j (omega arith), e, ew, eg)
-              (led-when (eqb (E j .event) a) j old-at (seek E a n (j + 1))) in
+              let step = led-step E a n j w g old-at ew eg in
               by-eq w a
               (λ z. rw (step, eq-eqb w a z, ← z) (getD-set-same new at g 0 (omega arith)))
               (λ ne. rw (step, ne-eqb w a ne)

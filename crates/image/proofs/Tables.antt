@@ -1,5 +1,6 @@
 -- The tables of a run: one more entry.
 --   Filling, root-start, root-turn, root-done   place 0's table, from its last edge to its first
+--   led-step            where an event leads, with one edge more in front
 --   packed-more         the packed table, from place 0 on
 -- Assumes nothing.
 use mathlib.Core.Path.{_≡_, refl, sym, ap, _∙_}
@@ -19,16 +20,12 @@ use Rattle.meaning.proofs.Walk.{next-zero}
 use Rattle.image.specs.Form.{EdgeRecord, form1, edgeAt, placeAt}
 use Rattle.image.specs.Questions.{seek, questionsAt}
 use Rattle.image.specs.Held.{IsRoot, PackedAt}
+use Rattle.image.specs.Steps.{ledBy}
 use Rattle.image.proofs.Seek.{seek-step, seek-end}
-
--- where the walk stands at place 0 with the edge found, or none
-abbrev pub leadsTo : (ℕ → EdgeRecord) → Option ℕ → ℕ
-leadsTo E none = 0
-leadsTo E (some j) = E j .target
 
 -- the table of n edges from j on
 abbrev pub RootFrom : (ℕ → EdgeRecord) → ℕ → ℕ → List ℕ → Type 0
-RootFrom E n j root = (a : ℕ) → a < 256 → getD root a 0 ≡ leadsTo E (seek E a n j)
+RootFrom E n j root = (a : ℕ) → a < 256 → getD root a 0 ≡ ledBy E (seek E a n j) 0
 
 -- the edges from j on up to end are in the table
 pub record Filling (E : ℕ → EdgeRecord) (first end j : ℕ) (root : List ℕ) : Type 0 where
@@ -49,16 +46,21 @@ module _ (E : ℕ → EdgeRecord) where
         table = λ a b. rw (e, seek-end E a (first + n - j) j z) (getD-replicate 256 a 0 0 b);
       }
 
-  leads-when : (b : Bool) (j : ℕ) (o : Option ℕ) → leadsTo E (when b (some j) o) ≡ when b (E j .target) (leadsTo E o)
-  leads-when true j o = refl
-  leads-when false j o = refl
+  led-when : (b : Bool) (j r : ℕ) (o : Option ℕ) → ledBy E (when b (some j) o) r ≡ when b (E j .target) (ledBy E o r)
+  led-when true j r o = refl
+  led-when false j r o = refl
+
+  -- one edge more in front
+  pub led-step : (a n j w g r : ℕ) → w ≡ E j .event → g ≡ E j .target
+      → ledBy E (seek E a (n + 1) j) r ≡ when (eqb w a) g (ledBy E (seek E a n (j + 1)) r)
+  led-step a n j w g r ew eg =
+      let e : n + 1 - 1 ≡ n = omega arith in
+      rw (seek-step E a (n + 1) j (omega arith), e, ew, eg) (led-when (eqb (E j .event) a) j r (seek E a n (j + 1)))
 
   root-put : (n j w r : ℕ) (root : List ℕ) → length root ≡ 256 → w < 256 → w ≡ E j .event → r ≡ E j .target
       → RootFrom E n (j + 1) root → RootFrom E (n + 1) j (set root w r)
   root-put n j w r root len small ew er old a b =
-      let e : n + 1 - 1 ≡ n = omega arith in
-      let step : leadsTo E (seek E a (n + 1) j) ≡ when (eqb w a) r (leadsTo E (seek E a n (j + 1))) =
-      rw (seek-step E a (n + 1) j (omega arith), e, ew, er) (leads-when (eqb (E j .event) a) j (seek E a n (j + 1))) in
+      let step = led-step a n j w r 0 ew er in
       by-eq w a
       (λ z. rw (step, eq-eqb w a z, ← z) (getD-set-same root w r 0 (omega arith)))
       (λ nz. rw (step, ne-eqb w a nz) (getD-set-other root w a r 0 (λ y. nz (sym y)) ∙ old a b))
@@ -78,7 +80,7 @@ module _ (E : ℕ → EdgeRecord) where
       }
 
 root-place : (E : ℕ → EdgeRecord) (o : Option ℕ)
-    → leadsTo E o ≡ take-edge (then o (λ j. some (E j .target))) (stand 0 0) .place
+    → ledBy E o 0 ≡ take-edge (then o (λ j. some (E j .target))) (stand 0 0) .place
 root-place E none = refl
 root-place E (some j) = refl
 
@@ -91,7 +93,7 @@ root-done xs q first n j root en ej R l a b =
     let u = R .from in
     let e : first + n - j ≡ placeAt form1 xs 0 .count = omega arith in
     let h : j ≡ placeAt form1 xs 0 .first = omega arith in
-    let f : getD root a 0 ≡ leadsTo E (M .find 0 a) = rw (← e, ← h) (R .table a b) in
+    let f : getD root a 0 ≡ ledBy E (M .find 0 a) 0 = rw (← e, ← h) (R .table a b) in
     rw (next-zero M a) (f ∙ root-place E (M .find 0 a))
 
 pub packed-more : (xs table : List ℕ) (p r : ℕ) → p < length table → ((l : ℕ) → l < p → PackedAt xs l (getD table l 0))

@@ -4,7 +4,7 @@
 --   summedFirst xs t    from place 0 of an accepted image; 0 for any other
 use mathlib.Core.Path.{_≡_}
 use mathlib.Core.List.{List, [], _∷_}
-use Prim.Native.Nat.{ℕ, _+_, _%_, _<_}
+use Prim.Native.Nat.{ℕ, _+_, _%_}
 use Rattle.meaning.specs.Answer.{Answer, accepted, refused}
 use Rattle.image.specs.Calls.{nextIn}
 use Rattle.image.specs.Rules.{checkImage}

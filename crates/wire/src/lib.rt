@@ -1,7 +1,7 @@
 // Little-endian numbers in bytes: reading past the end gives 0, writing past the end changes nothing.
 ghost use mathlib.Core.Path.{_≡_};
-ghost use Prim.Native.Nat.{ℕ, _+_, _*_, _<_, _%_, _/_};
-ghost use lib.ListN.{length, getD, set};
+ghost use Prim.Native.Nat.{_+_, _<_};
+ghost use lib.ListN.{length, set};
 ghost use Rattle.wire.specs.Little.{ByteIs, NumberIs, le16At, le32At, put16At, put32At};
 
 // The byte at a place, 0 past the end.

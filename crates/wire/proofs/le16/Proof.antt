@@ -1,7 +1,6 @@
 use borrow.Author.Needs.{needs}
 use denote.Ref.{now}
 use mathlib.Core.Path.{sym}
-use native.Mathlib.Omega.{arith}
 use lib.Dec.{lit<}
 use Rattle.wire.proofs.Little.{le16-last, le16-out}
 use Rattle.wire.proofs.le16.Statement.{statement}

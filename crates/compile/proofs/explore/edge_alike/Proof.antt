@@ -1,5 +1,5 @@
 -- `edge_alike` meets its contract. Assumes nothing.
-use mathlib.Core.Path.{refl, sym, _∙_}
+use mathlib.Core.Path.{refl}
 use borrow.Author.Needs.{needs}
 use Rattle.meaning.proofs.Cases.{true-false}
 use Rattle.compile.proofs.Alike.{edge-is}
