@@ -79,6 +79,8 @@ pub struct Kinds {
     pub runs_with_records_and_steps: u64,
     pub of_these_cut_by_room: u64,
     pub runs_cut_by_room: u64,
+    /// Of 8,000 events and 4,096 failure steps at the least: a run may make a table of steps for them.
+    pub long_runs: u64,
 }
 
 pub struct Compare {
@@ -301,6 +303,7 @@ impl Compare {
         if answer.number == 0 {
             let cut = answer.a < log.len() as u64;
             self.kinds.runs_cut_by_room += u64::from(cut);
+            self.kinds.long_runs += u64::from(answer.a >= 8_000 && answer.d >= 4_096);
             if answer.c > 0 && answer.d > 0 {
                 self.kinds.runs_with_records_and_steps += 1;
                 self.kinds.of_these_cut_by_room += u64::from(cut);

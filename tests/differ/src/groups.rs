@@ -384,6 +384,20 @@ fn run(groups: &mut Vec<Group>) {
             compare.run(&image, 0, 0, &log, random.below(300_000));
         }
     }));
+    groups.push(group("run: logs long enough for a table of steps", function, |compare, pool, random| {
+        for _ in 0..compare.times(120) {
+            let image = pool.image(random).to_vec();
+            let open = oracle::image::open(&image).expect("an image of the pool is accepted");
+            let place = if random.once_in(2) { 0 } else { random.below(open.place_count()) };
+            let length = random.between(8_000, 20_000);
+            let log = draw::log(random, &open, place, length);
+            let whole = oracle::run::run(&open, place as u32, 0, &log, usize::MAX).expect("not refused");
+            // Room for every record, or for less: then the run stops somewhere on its way.
+            let needed = 8 * whole.records.len();
+            let room = if random.once_in(3) { random.below(needed + 1) } else { needed + random.below(9) };
+            compare.run(&image, place as u32, 0, &log, room);
+        }
+    }));
     groups.push(group("run: a log in parts", function, |compare, pool, random| {
         for _ in 0..compare.times(800) {
             let image = pool.image(random).to_vec();

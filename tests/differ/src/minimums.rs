@@ -69,6 +69,7 @@ pub fn rows(compare: &Compare, full: bool) -> Vec<Row> {
     row("compiled images of over 500 places".to_string(), 300, kinds.images_over_500, compile);
     row("runs with records and failure steps".to_string(), 5_000, kinds.runs_with_records_and_steps, run);
     row("of these, cut short by room".to_string(), 1_000, kinds.of_these_cut_by_room, run);
+    row("runs of 8,000 events with 4,096 failure steps".to_string(), 40, kinds.long_runs, run);
     rows
 }
 
