@@ -1,4 +1,5 @@
 // A book is checked, refusals 1 to 13 in their order; and what the compile asks of a book.
+#![tactic(auto)]
 ghost use Rattle.std.specs.Prelude.{◌≡◌, true, false, ℕ, ◌+◌, ◌-◌, ◌≤◌, ◌<◌, min, length};
 ghost use Rattle.meaning.specs.Book.{look, outs, marks};
 ghost use Rattle.meaning.specs.Answer.{Answer, accepted, judged};
@@ -17,7 +18,7 @@ pub const SB: [u8; 2] = *b"SB";
 // A record from this number on would start past the end of any memory.
 const FAR: usize = 4611686018427387904;
 
-#[derive(Drop)]
+#[derive(Clone, Copy)]
 pub struct Trailer {
     pub distance: usize,
     pub states: usize,
@@ -26,35 +27,35 @@ pub struct Trailer {
 }
 
 // The byte beside the mark, or beside the event, is spare: it must be 0.
-#[derive(Drop)]
+#[derive(Clone, Copy)]
 pub struct StateRecord {
     pub mark: usize,
     pub spare: usize,
     pub count: usize,
 }
 
-#[derive(Drop)]
+#[derive(Clone, Copy)]
 pub struct EdgeRecord {
     pub event: usize,
     pub spare: usize,
     pub target: usize,
 }
 
-#[derive(Drop)]
+#[derive(Clone, Copy)]
 pub enum Checked {
     Fine { states: usize, edges: usize },
     Refused { number: u32, place: u32 },
 }
 
 // The place of the first record at fault.
-#[derive(Drop)]
+#[derive(Clone, Copy)]
 enum Fault {
     At(u32),
     Nothing,
 }
 
 // The state that an event leads to.
-#[derive(Drop)]
+#[derive(Clone, Copy)]
 pub enum Found {
     To(usize),
     Nothing,

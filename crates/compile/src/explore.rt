@@ -15,14 +15,14 @@ ghost use Rattle.compile.specs.Explore.{NextEdge, Opened, Explored};
 use crate::work::{add, below, entry, nothing_seen, of_head, settle};
 use book::Found;
 
-#[derive(Drop)]
+#[derive(Clone, Copy)]
 pub(crate) struct Counts {
     pub places: usize,
     pub edges: usize,
 }
 
 // The number of places, and how many chains more of the place that is opened are looked for among those met before.
-#[derive(Drop)]
+#[derive(Clone, Copy)]
 struct Met {
     places: usize,
     tries: usize,
@@ -41,7 +41,7 @@ fn led(table: &[u8], states: usize, first: &[u16; 512], q: usize, event: usize) 
 }
 
 // A place below in a chain, and one more than the state that an event leads to from its head; 0 for no place.
-#[derive(Drop)]
+#[derive(Clone, Copy)]
 struct Lead {
     place: usize,
     to: usize,

@@ -1,5 +1,6 @@
 // The compile: a book's image into lent memory, or the number of its fault. The places are counted first and written
 // afterwards, so that a refusal leaves the memory as it was.
+#![tactic(auto)]
 mod explore;
 mod work;
 mod write;
@@ -14,7 +15,7 @@ use book::Checked;
 use explore::explore;
 use write::write_image;
 
-#[derive(Drop)]
+#[derive(Clone, Copy)]
 pub enum Compiled {
     Made {
         length: usize,

@@ -1,1 +1,2 @@
 // Definitions in specs/, theorems in proofs/: no code.
+#![tactic(auto)]

@@ -1,4 +1,5 @@
 // The face for C and Rust: nothing but calls. Each function answers by the definition that its crate's contract cites.
+#![tactic(auto)]
 ghost use Rattle.std.specs.Prelude.{◌≡◌, length};
 ghost use Rattle.meaning.specs.Answer.{accepted, refused};
 ghost use Rattle.book.specs.Rules.{check_book};
@@ -13,7 +14,7 @@ ghost use Rattle.gusemrak.specs.Face.{face};
 
 // Number 0 where a call is not refused; the numbers that an answer does not have are 0.
 #[repr(C)]
-#[derive(Drop)]
+#[derive(Clone, Copy)]
 pub struct Answer {
     pub number: u32,
     pub place: u32,

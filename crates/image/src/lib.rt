@@ -1,4 +1,5 @@
 // An image of a signature book: checked, opened and asked, walked one event at a time, run over a log.
+#![tactic(auto)]
 ghost use Rattle.std.specs.Prelude.{◌≡◌};
 ghost use Rattle.image.specs.Answers.{told_checked, told_asked, told_edged, told_walked, told_ran};
 ghost use Rattle.image.specs.Calls.{checked_first, fallback_in, level_in, mark_in, edge_in, next_in};
@@ -17,21 +18,21 @@ mod total;
 // The last two bytes of an image.
 pub const SM: [u8; 2] = *b"SM";
 
-#[derive(Drop)]
+#[derive(Clone, Copy)]
 pub enum Checked {
     Fine { places: u32, edges: u32 },
     Refused { number: u32, place: u32 },
 }
 
 // The number asked for.
-#[derive(Drop)]
+#[derive(Clone, Copy)]
 pub enum Asked {
     Is(u32),
     Refused { number: u32, place: u32 },
 }
 
 // The target of an edge.
-#[derive(Drop)]
+#[derive(Clone, Copy)]
 pub enum Edged {
     To(u32),
     Nothing,
@@ -39,20 +40,20 @@ pub enum Edged {
 }
 
 // A place with its level, and the failure steps of the event that led there.
-#[derive(Drop)]
+#[derive(Clone, Copy)]
 pub struct Walk {
     pub place: u32,
     pub level: u32,
     pub steps: u32,
 }
 
-#[derive(Drop)]
+#[derive(Clone, Copy)]
 pub enum Walked {
     On(Walk),
     Refused { number: u32, place: u32 },
 }
 
-#[derive(Drop)]
+#[derive(Clone, Copy)]
 pub enum Ran {
     Done {
         taken: usize,
@@ -67,7 +68,7 @@ pub enum Ran {
 }
 
 // The open image: the caller's bytes, with the counts. It is had only by `open`.
-#[derive(Drop)]
+#[derive(Clone, Copy)]
 pub struct Image<'a> {
     bytes: &'a [u8],
     places: u32,
@@ -75,21 +76,21 @@ pub struct Image<'a> {
 }
 
 // A record that was looked for, by its number.
-#[derive(Drop)]
+#[derive(Clone, Copy)]
 enum Found {
     At(usize),
     Nothing,
 }
 
 // Where one event leads, and its failure steps.
-#[derive(Drop)]
+#[derive(Clone, Copy)]
 struct Moved {
     place: usize,
     steps: usize,
 }
 
 // Where a run stands, and whether it has no room for the next event's records.
-#[derive(Drop)]
+#[derive(Clone, Copy)]
 struct Going {
     taken: usize,
     place: usize,

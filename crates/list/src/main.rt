@@ -1,4 +1,5 @@
 // The listing of a log by a signature book: reads `book.sb` and `log.ev` and prints the full list, or what is refused.
+#![tactic(auto)]
 ghost use Rattle.std.specs.Prelude.{◌≤◌, ◌<◌, ◌≡◌, length};
 ghost use Rattle.io.specs.Counts.{IsPrefixLen};
 ghost use Rattle.image.specs.Calls.{places_in};
@@ -27,7 +28,7 @@ const TEXT: usize = 23529;
 const LINE: usize = 64;
 
 // What one part of the run came to: events taken, place, failure steps, and the bytes of its lines.
-#[derive(Drop)]
+#[derive(Clone, Copy)]
 struct Part {
     taken: usize,
     place: u32,

@@ -1,5 +1,6 @@
 // Lists of records: the short list, the part of a log that a record names, and the letter of an event's group.
 // `listing` has the text that the program prints.
+#![tactic(auto)]
 ghost use Rattle.std.specs.Prelude.{◌≡◌, ◌+◌, ◌*◌, ◌≤◌, length};
 ghost use Rattle.std.proofs.lemmas.List.Edits.{sets};
 ghost use Rattle.lists.specs.Whole.{records_from, joined};
@@ -12,14 +13,14 @@ pub mod text;
 
 const RECORD: usize = 8;
 
-#[derive(Drop)]
+#[derive(Clone, Copy)]
 pub enum Short {
     Kept(usize),
     Refused { number: u32, place: u32 },
 }
 
 // The part that an end and a length name, by its offset in the log and its length there.
-#[derive(Drop)]
+#[derive(Clone, Copy)]
 pub enum Named {
     Fine { offset: usize, length: usize },
     Refused { number: u32, place: u32 },

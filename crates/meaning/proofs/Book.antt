@@ -43,9 +43,9 @@ look-mem (e ∷ es) a p f =
     Memᴰ.head (λ i. record { event = y i; target = z i }))
     (λ g. Memᴰ.tail (look-mem es a p (sym (rw g) ∙ f)))
 
-event_mem : (es : List Edge) (e : Edge) → Memᴰ e es → Memᴰ e.event (map (λ (e : Edge). e.event) es)
-event_mem es e (Memᴰ.head f) = Memᴰ.head (ap (λ (e : Edge). e.event) f)
-event_mem es e (Memᴰ.tail {xs = ds} m) = Memᴰ.tail (event_mem ds e m)
+event_mem : (e : Edge) (es : List Edge) → Memᴰ e es → Memᴰ e.event (map (λ (e : Edge). e.event) es)
+event_mem e es (Memᴰ.head f) = Memᴰ.head (ap (λ (e : Edge). e.event) f)
+event_mem e es (Memᴰ.tail {xs = ds} m) = Memᴰ.tail (event_mem e ds m)
 
 look_only : (es : List Edge) (a : ℕ) → Memᴰ a (map (λ (e : Edge). e.event) es) → (p : ℕ) × (look es a ≡ some p)
 look_only [] a m = absurd (Memᴰ.not-nil m)
@@ -59,7 +59,7 @@ pub delta-mem : (B : Book) (q a p : ℕ) → delta B q a ≡ some p → Memᴰ (
 delta-mem B q a p e = look-mem (state_at B q).edges a p e
 
 pub delta_names : (B : Book) → Names (delta B) (outs B)
-delta_names B q a p e = event_mem (state_at B q).edges (edge a p) (delta-mem B q a p e)
+delta_names B q a p e = event_mem (edge a p) (state_at B q).edges (delta-mem B q a p e)
 
 pub delta_only : (B : Book) → Only (delta B) (outs B)
 delta_only B q a m = look_only (state_at B q).edges a m

@@ -57,6 +57,7 @@ has-In q (x ∷ c) nz e =
     (λ f. let i = has-In q c nz (sym (rw f) ∙ e) in (i.0, mathlib.Core.List.Memᴰ.tail i.1))
 
 pub In-has : (q r : ℕ) (c : Chain) → Memᴰ (live q r) c → has q c ≡ true
+In-has q r [] x' = elim x' [ ]
 In-has q r (x ∷ c) (mathlib.Core.List.Memᴰ.head e) = let f : x.state ≡ q = cc in rw (eq-eqb x.state q f)
 In-has q r (x ∷ c) (mathlib.Core.List.Memᴰ.tail m) = by_bool (eqb x.state q) (λ f. rw f) (λ f. rw (f, In-has q r c m))
 

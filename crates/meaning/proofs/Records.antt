@@ -187,13 +187,13 @@ module _ (mark : Marks) where
       (λ k. let i = hits-mem e c h k in (i.0, Memᴰ.tail i.1, i.2, i.3))
       (Memᴰ.cases_cons (rw q at m)))
 
-  pub mem-hits : (e : ℕ) (c : Chain) (x : Live) → Memᴰ x c → mark x.state ≢ 0
+  pub mem-hits : (e : ℕ) (x : Live) (c : Chain) → Memᴰ x c → mark x.state ≢ 0
       → Memᴰ (hit mark e x) (hits mark e c)
-  mem-hits e c x (Memᴰ.head {x = y} f) nz =
+  mem-hits e x c (Memᴰ.head {x = y} f) nz =
       let g : mark y.state ≢ 0 = subst (λ (z : Live). mark z.state ≢ 0) f nz in
       rw (ne_eqb (mark y.state) 0 g) (Memᴰ.head (ap (λ (z : Live). hit mark e z) f))
-  mem-hits e c x (Memᴰ.tail {x = y} {xs = d} m) nz =
-      let i = mem-hits e d x m nz in
+  mem-hits e x c (Memᴰ.tail {x = y} {xs = d} m) nz =
+      let i = mem-hits e x d m nz in
       by_bool (eqb (mark y.state) 0) (λ q. rw q i) (λ q. rw q (Memᴰ.tail i))
 
   -- chains told alike have the same records, where what is told of a reach decides what is shown of it
@@ -245,7 +245,7 @@ module _ (δ : Delta) (mark : Marks) (e : ℕ) where
       fro r =
           let q = r.state in
           let z : mark q ≢ 0 = λ k. r.marked (sym r.its_mark ∙ k) in
-          let m = mem-hits mark e (chain δ t) (live q r.reach) (chain-has δ t q r.reach r.its_reach) z in
+          let m = mem-hits mark e (live q r.reach) (chain δ t) (chain-has δ t q r.reach r.its_reach) z in
           Memᴰ.cast (λ i. record { end = r.at_end i; length = r.its_length i; mark = sym r.its_mark i }) m
 
   -- a word that leads to a marked state, as an ending of the text, is recorded with its mark
@@ -254,7 +254,7 @@ module _ (δ : Delta) (mark : Marks) (e : ℕ) where
   no_miss s w q f nz mz =
       let l : Leads δ (s ++ w) q (length w) = (s, w, refl, refl, f) in
       let R = alive_reach δ (s ++ w) q (nz, (length w, l)) in
-      let m = mem-hits mark e (chain δ (s ++ w)) (live q R.0) (chain-has δ (s ++ w) q R.0 R.1) mz in
+      let m = mem-hits mark e (live q R.0) (chain δ (s ++ w)) (chain-has δ (s ++ w) q R.0 R.1) mz in
       (R.0, R.1.2 (length w) l, m)
 
   -- A RECORD EXACTLY WHERE A SIGNATURE ENDS

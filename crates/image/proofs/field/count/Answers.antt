@@ -1,0 +1,9 @@
+-- `image::field::count` meets its contract.
+-- Assumes nothing.
+use borrow.Author.Rules.{rules}
+use Rattle.image.specs.Form.{place_at}
+use Rattle.image.proofs.field.count.Goals as goal
+
+pub returns : goal.returns
+unfolding place_at
+returns c = search rules

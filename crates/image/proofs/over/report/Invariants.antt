@@ -1,0 +1,10 @@
+-- `image::over::report` meets its contract. The loop carries what is left to write: a turn of `Report`.
+-- Assumes nothing.
+use Rattle.image.proofs.Report.{Writing}
+use Rattle.image.proofs.over.report.Given as goal
+
+abbrev pub invariant-loop-link : goal.invariant-loop-link
+invariant-loop-link l = Writing l.image l.places l.end l.place l.initial.out l.k-2 l.out l.k l.link
+
+abbrev pub decreases-loop-link : goal.decreases-loop-link
+decreases-loop-link l = l.link
