@@ -64,8 +64,8 @@ pub extern "C" fn gusemrak_check_book(book: &[u8]) -> Answer
 // a: length, b: places, c: edges.
 #[unsafe(no_mangle)]
 pub extern "C" fn gusemrak_compile(book: &[u8], out: &mut [u8]) -> Answer
-    ensures value { result ≡ face (compile_answer book.now (length out.old)) }
-    ensures out_after { out.new ≡ compile_memory book.now out.old }
+    ensures answer { result ≡ face (compile_answer book.now (length out.old)) }
+    ensures memory { out.new ≡ compile_memory book.now out.old }
 {
     match compile::compile(book, out) {
         compile::Compiled::Made {
@@ -159,8 +159,8 @@ pub extern "C" fn gusemrak_run(
     log: &[u8],
     out: &mut [u8],
 ) -> Answer
-    ensures value { result ≡ face (run_answer image.now place base log.now out.old) }
-    ensures out_after { out.new ≡ run_memory image.now place base log.now out.old }
+    ensures answer { result ≡ face (run_answer image.now place base log.now out.old) }
+    ensures memory { out.new ≡ run_memory image.now place base log.now out.old }
 {
     match image::run(image, place, base, log, out) {
         image::Ran::Done {
@@ -176,8 +176,8 @@ pub extern "C" fn gusemrak_run(
 // a: records kept.
 #[unsafe(no_mangle)]
 pub extern "C" fn gusemrak_short_list(list: &[u8], out: &mut [u8]) -> Answer
-    ensures value { result ≡ face (short_answer list.now (length out.old)) }
-    ensures out_after { out.new ≡ short_memory list.now out.old }
+    ensures answer { result ≡ face (short_answer list.now (length out.old)) }
+    ensures memory { out.new ≡ short_memory list.now out.old }
 {
     match lists::short_list(list, out) {
         lists::Short::Kept(records) => fine(records, 0, 0, 0),

@@ -1,6 +1,6 @@
 -- The ranges of the groups, one law each. Assumes nothing.
 use mathlib.Core.Path.{◌≡◌, ap, ◌∙◌}
-use mathlib.Core.Bool.{Bool, true, false, ◌&&◌, and_false}
+use mathlib.Core.Bool.{Bool, true, false, ◌&&◌, and-false}
 use Prim.Native.Nat.{ℕ, ◌≤◌, ◌<◌}
 use native.Mathlib.Omega.{arith}
 use lib.Dec.{leb}
@@ -9,7 +9,7 @@ use Rattle.lists.specs.Letters.{letter}
 use Rattle.lists.specs.Group.{group_of}
 
 past : (event from to : ℕ) → to < event → (leb from event && leb event to) ≡ false
-past event from to h = ap (λ (b : Bool). leb from event && b) (lt-leb event to h) ∙ and_false (leb from event)
+past event from to h = ap (λ (b : Bool). leb from event && b) (lt-leb event to h) ∙ and-false (leb from event)
 
 inside : (event from to : ℕ) → from ≤ event → event ≤ to → (leb from event && leb event to) ≡ true
 inside event from to h k = rw (le-leb from event h, le-leb event to k)

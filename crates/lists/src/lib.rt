@@ -73,8 +73,8 @@ fn write_kept(list: &[u8], left: usize, at: usize, before: usize, out: &mut [u8]
 
 // A record is kept if it is the first, or if its end differs from the end just before it.
 pub fn short_list(list: &[u8], out: &mut [u8]) -> Short
-    ensures result_value { short_told result ≡ short_answer list.now (length out.old) }
-    ensures out_after { out.new ≡ short_memory list.now out.old }
+    ensures answer { short_told result ≡ short_answer list.now (length out.old) }
+    ensures memory { out.new ≡ short_memory list.now out.old }
 {
     if list.len() % RECORD != 0 {
         return Short::Refused {

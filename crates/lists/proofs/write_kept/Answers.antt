@@ -12,7 +12,7 @@ loop-left-init c = (refl, c.requires, λ out r w. w)
 pub loop-left-preserved-then-end-last : goal.loop-left-preserved-then-end-last
 loop-left-preserved-then-end-last c =
     let list = c.args.list.now in (
-      c.put_bytes-to.auto.0 ∙ c.loop-left.invariant.0,
+      c.put_bytes-to.auto.out ∙ c.loop-left.invariant.0,
       omega arith,
       left_other list _ _ _ _ c.loop-left-test.true c.le32-end.ensures.is c.if-end-last.true
           c.loop-left.invariant.2 c.put_bytes-to.ensures,

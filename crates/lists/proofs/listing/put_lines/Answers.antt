@@ -18,7 +18,7 @@ loop-left-preserved c =
     c.le16-length.ensures.is
     c.byte_at-mark.ensures.is
     c.last_letter.ensures in (
-      c.put_line-at.auto.0 ∙ c.loop-left.invariant.0,
+      c.put_line-at.auto.out ∙ c.loop-left.invariant.0,
       omega arith,
       left_more c.loop-left.invariant.2 line c.put_line-at.ensures,
     )
