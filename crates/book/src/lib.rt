@@ -1,5 +1,6 @@
 // A book is checked, refusals 1 to 13 in their order; and what the compile asks of a book.
 #![tactic(auto)]
+
 ghost use Rattle.std.specs.Prelude.{◌≡◌, true, false, ℕ, ◌+◌, ◌-◌, ◌≤◌, ◌<◌, min, length};
 ghost use Rattle.meaning.specs.Book.{look, outs, marks};
 ghost use Rattle.meaning.specs.Answer.{Answer, accepted, judged};

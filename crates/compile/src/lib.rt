@@ -1,6 +1,7 @@
 // The compile: a book's image into lent memory, or the number of its fault. The places are counted first and written
 // afterwards, so that a refusal leaves the memory as it was.
 #![tactic(auto)]
+
 mod explore;
 mod work;
 mod write;

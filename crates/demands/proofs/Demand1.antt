@@ -1,5 +1,5 @@
 -- DEMAND 1, proved: `demand1`. Assumes nothing.
-use mathlib.Core.Path.{◌≡◌, refl, sym, ap, ◌∙◌}
+use mathlib.Core.Path.{◌≡◌, refl, sym}
 use mathlib.Core.Option.{Option, none, some}
 use mathlib.Core.List.{List, [], ◌∷◌, ◌++◌}
 use Prim.Native.Nat.{ℕ, ◌-◌, ◌/◌}
@@ -19,7 +19,7 @@ use Rattle.image.specs.Questions.{questions}
 use Rattle.image.specs.Rules.{image_rules, check_image}
 use Rattle.image.specs.Calls.{checked_first, run_rules, run_told, run_answer, run_memory}
 use Rattle.lists.specs.Short.{short_of, short_rules, short_answer, short_memory}
-use Rattle.lists.specs.Part.{start_of, part_rules, part_answer, part_of}
+use Rattle.lists.specs.Part.{start_of, part_rules, part_answer}
 use Rattle.lists.proofs.Parts.{part_empty, part_refused}
 use Rattle.compile.specs.Bytes.{edge_count}
 use Rattle.compile.specs.Answer.{chains_of, made_of, after_book, compile_answer, compile_memory}

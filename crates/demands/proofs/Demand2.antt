@@ -1,17 +1,17 @@
 -- DEMAND 2, proved: `demand2`. `one_state`: the book of one state has no record on any log. Assumes nothing.
-use mathlib.Core.Path.{◌≡◌, refl, sym, ap, ◌∙◌, subst}
+use mathlib.Core.Path.{◌≡◌, sym, ap, ◌∙◌, subst}
 use mathlib.Core.Logic.{◌≢◌, ◌↔◌}
-use mathlib.Core.Option.{Option, none, some}
-use mathlib.Core.List.{List, [], ◌∷◌, map, Memᴰ}
+use mathlib.Core.Option.{none}
+use mathlib.Core.List.{List, [], map, Memᴰ}
 use Prim.Native.Nat.{ℕ, ◌+◌, ◌/◌, ◌≤◌, ◌<◌}
 use native.Mathlib.Omega.{arith}
 use lib.ListN.{length, take}
 use Rattle.wire.specs.Record.{record_size}
 use Rattle.meaning.specs.Answer.{accepted}
-use Rattle.meaning.specs.Text.{Text, Delta, Marks, events, Ends}
-use Rattle.meaning.specs.Chain.{Live, Chain, chain, IsChain}
+use Rattle.meaning.specs.Text.{Delta, Marks, events, Ends}
+use Rattle.meaning.specs.Chain.{Live, Chain, chain}
 use Rattle.meaning.specs.Book.{delta, outs, marks}
-use Rattle.meaning.specs.Records.{Record, Outcome, hit, marked, ending_at}
+use Rattle.meaning.specs.Records.{Record, hit, marked, ending_at}
 use Rattle.meaning.proofs.Cases.{by_option}
 use Rattle.meaning.proofs.Book.{delta_names, delta_only}
 use Rattle.meaning.proofs.Chain.{chain_is, chain_unique}

@@ -1,25 +1,21 @@
 -- DEMAND 3, proved: `demand3`. Assumes nothing.
 use mathlib.Core.Path.{◌≡◌, refl, sym, ap, ◌∙◌, subst}
-use mathlib.Core.Logic.{◌↔◌}
 use mathlib.Core.Option.{Option, none, some}
 use mathlib.Core.List.{List, []}
-use Prim.Native.Nat.{ℕ, ◌≤◌, ◌<◌}
+use Prim.Native.Nat.{ℕ, ◌<◌}
 use native.Mathlib.Omega.{arith}
 use lib.ListN.{length, get_or}
 use Rattle.meaning.specs.Text.{Text, events}
-use Rattle.meaning.specs.Answer.{accepted, refused}
+use Rattle.meaning.specs.Answer.{refused}
 use Rattle.meaning.specs.Chain.{Chain, chain, IsChain}
-use Rattle.meaning.specs.Places.{number, places, MoreThan}
+use Rattle.meaning.specs.Places.{number, places}
 use Rattle.meaning.specs.Book.{delta, outs}
-use Rattle.meaning.specs.Walk.{walk}
 use Rattle.meaning.proofs.Chain.{chain_is}
 use Rattle.meaning.proofs.Text.{events_all}
 use Rattle.meaning.proofs.Book.{delta_names}
 use Rattle.meaning.proofs.Places.{number-chain, number_is, place_reached, places_over}
 use Rattle.book.specs.Model.{book_of}
-use Rattle.book.specs.Rules.{check_book}
 use Rattle.image.specs.Questions.{questions}
-use Rattle.compile.specs.Bytes.{edge_count}
 use Rattle.compile.specs.Answer.{chains_of, compile_answer}
 use Rattle.compile.proofs.Theorems.{refused_14, refused_15}
 use Rattle.demands.specs.Words.{Accepted, Compiled, chain_named}

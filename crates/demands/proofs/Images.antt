@@ -1,8 +1,8 @@
 -- The image that a compile wrote. From `Compiled xs ys`: image_is (its bytes are those of the book's image), image_chains (the chains
 -- that it numbers, and what they obey), image_alike (its questions are those of the book's image), image_count, names_of (a place
 -- and its fallbacks name its chain), place_after_lem (the place after a log). Assumes nothing.
-use mathlib.Core.Path.{◌≡◌, refl, sym, ap, ◌∙◌, subst}
-use mathlib.Core.List.{List, [], ◌∷◌, ◌++◌}
+use mathlib.Core.Path.{◌≡◌, sym, ap, ◌∙◌, subst}
+use mathlib.Core.List.{List, []}
 use Prim.Native.Nat.{ℕ, ◌+◌, ◌≤◌, ◌<◌}
 use native.Mathlib.Omega.{arith}
 use lib.ListN.{length, get_or, take, drop}
@@ -10,21 +10,21 @@ use lib.Seq.{sets, sets-eq, take_at}
 use Rattle.meaning.specs.Text.{Text, events}
 use Rattle.meaning.specs.Chain.{Chain, chain, head}
 use Rattle.meaning.specs.Places.{number, Numbers}
-use Rattle.meaning.specs.Book.{Book, delta, outs, marks}
-use Rattle.meaning.specs.Questions.{Image, Levels, named_within, image_of}
+use Rattle.meaning.specs.Book.{delta, outs, marks}
+use Rattle.meaning.specs.Questions.{Levels, image_of}
 use Rattle.meaning.specs.Walk.{Stand, walk}
 use Rattle.meaning.proofs.Book.{delta_names, delta_only}
 use Rattle.meaning.proofs.Alike.{Alike, named_alike}
 use Rattle.meaning.proofs.Image.{image_named}
-use Rattle.meaning.proofs.Places.{number-zero, number-chain, some_place}
+use Rattle.meaning.proofs.Places.{number-zero, some_place}
 use Rattle.meaning.proofs.Text.{events_nil}
 use Rattle.meaning.proofs.ImageRun.{image_log}
 use Rattle.book.specs.Model.{book_of}
 use Rattle.image.specs.Form.{PlaceRecord, form1, form_of, place_at}
 use Rattle.image.specs.Questions.{questions}
 use Rattle.compile.specs.Bytes.{place_of, image_bytes}
-use Rattle.compile.specs.Answer.{chains_of, image_of_book, compile_memory}
-use Rattle.compile.proofs.Shown.{Fine, place_shown}
+use Rattle.compile.specs.Answer.{image_of_book}
+use Rattle.compile.proofs.Shown.{place_shown}
 use Rattle.compile.proofs.Theorems.{Compiles, compiled, compiled_memory, made_alike, made_levels, made_length, made_walk}
 use Rattle.demands.specs.Words.{Compiled, chain_named}
 

@@ -2,25 +2,24 @@
 -- book's image), ran_taken (and so are the events taken), log_fits. On the way: `list_bytes-joined`, `run-writes`, what a run that is not
 -- refused wrote; records_fit: its ends and lengths fit their bytes. Assumes nothing.
 use mathlib.Core.Path.{◌≡◌, refl, sym, ap, ◌∙◌, subst}
-use mathlib.Core.Logic.{⊎_elim}
 use mathlib.Core.Bool.{Bool, true, false}
 use mathlib.Core.Option.{Option, none, some}
 use mathlib.Core.List.{List, [], ◌∷◌, ◌++◌, map, Memᴰ}
 use Prim.Native.Nat.{ℕ, ◌+◌, ◌*◌, ◌/◌, ◌≤◌, ◌<◌}
 use native.Mathlib.Omega.{arith}
 use lib.ListN.{length, take, length-append}
-use lib.Dec.{leb, ltb}
+use lib.Dec.{ltb}
 use lib.Seq.{sets}
 use borrow.Author.Tests.{ltb-false}
 use Rattle.wire.specs.Record.{record_size, record_bytes}
 use Rattle.meaning.specs.Choice.{when}
-use Rattle.meaning.specs.Answer.{Answer, accepted, refused, rule, judged}
+use Rattle.meaning.specs.Answer.{accepted, judged}
 use Rattle.meaning.specs.Text.{Delta, Marks}
 use Rattle.meaning.specs.Book.{delta, outs, marks}
-use Rattle.meaning.specs.Questions.{Image, image_of}
+use Rattle.meaning.specs.Questions.{image_of}
 use Rattle.meaning.specs.Records.{Record, Outcome, run}
 use Rattle.meaning.proofs.Cases.{none_some}
-use Rattle.meaning.proofs.Book.{Rising, Under, delta_names, delta_only, read_under}
+use Rattle.meaning.proofs.Book.{delta_names, delta_only, read_under}
 use Rattle.meaning.proofs.Small.{reach_state}
 use Rattle.meaning.proofs.Places.{some_place}
 use Rattle.meaning.proofs.Run.{run_room, run_taken}

@@ -1,7 +1,7 @@
 -- A refusal is by a number of the rules that were judged. `judged_in`: where every rule's number lies within two limits, so does
 -- the number of every refusal. Assumes nothing.
-use mathlib.Core.Path.{◌≡◌, refl, subst}
-use mathlib.Core.Bool.{Bool, true, false, ◌&&◌}
+use mathlib.Core.Path.{◌≡◌, subst}
+use mathlib.Core.Bool.{Bool, true, ◌&&◌}
 use mathlib.Core.Option.{Option, none, some}
 use mathlib.Core.List.{List, [], ◌∷◌}
 use Prim.Native.Nat.{ℕ, ◌≤◌}

@@ -1,14 +1,14 @@
 -- THE PART OF A RECORD, proved: `parts_lead`. Assumes nothing.
 use mathlib.Core.Path.{◌≡◌, refl, sym, ap, ◌∙◌, subst}
 use mathlib.Core.Logic.{◌≢◌}
-use mathlib.Core.Option.{Option, some}
+use mathlib.Core.Option.{some}
 use mathlib.Core.List.{List, [], ◌∷◌, ◌++◌, Memᴰ}
-use Prim.Native.Nat.{ℕ, zero, suc, ◌+◌, ◌/◌, ◌≤◌, ◌<◌}
+use Prim.Native.Nat.{ℕ, ◌+◌, ◌/◌, ◌≤◌}
 use native.Mathlib.Omega.{arith}
 use lib.ListN.{length, take, drop, length-append}
 use lib.Seq.{drop_at, length-take-le}
 use Rattle.wire.specs.Record.{record_size}
-use Rattle.meaning.specs.Text.{Text, Delta, events, read}
+use Rattle.meaning.specs.Text.{Text, Delta, read}
 use Rattle.meaning.specs.Book.{delta, outs, marks}
 use Rattle.meaning.specs.Questions.{image_of}
 use Rattle.meaning.specs.Records.{Record}
@@ -19,8 +19,7 @@ use Rattle.meaning.proofs.ImageRun.{image_run_right}
 use Rattle.book.specs.Model.{book_of}
 use Rattle.lists.specs.Part.{part_of}
 use Rattle.lists.proofs.Parts.{part-ending}
-use Rattle.demands.specs.Words.{Compiled, Ran}
-use Rattle.demands.specs.Parts.{Leading, PartsLead}
+use Rattle.demands.specs.Parts.{PartsLead}
 use Rattle.demands.proofs.Images.{image_chains, numbers_of}
 use Rattle.demands.proofs.Lists.{ran_is, log_fits}
 

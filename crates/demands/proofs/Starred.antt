@@ -1,7 +1,5 @@
 -- The starred cases, proved: `starred`, every line by computation. Assumes nothing.
-use mathlib.Core.Path.{◌≡◌, refl}
-use mathlib.Core.List.{List, [], ◌∷◌}
-use Prim.Native.Nat.{ℕ}
+use mathlib.Core.Path.{refl}
 use Rattle.meaning.specs.Questions.{first_edge}
 use Rattle.meaning.specs.Walk.{next}
 use Rattle.meaning.specs.Records.{records_within, records_at, run}

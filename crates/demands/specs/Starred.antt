@@ -7,12 +7,12 @@
 --   Line                     a line of the table: what is called, and the figures that the paper gives
 --   Holds                    what a line says, over the definitions that the contracts name
 --   table, Starred           THE TABLE, and that each of its lines holds
-use Rattle.std.specs.Prelude.{◌≡◌, List, [], ◌∷◌, ◌++◌, ℕ, ◌+◌, ◌*◌, length, take, set, replicate}
+use Rattle.std.specs.Prelude.{◌≡◌, List, [], ◌∷◌, ◌++◌, ℕ, ◌*◌, length, take, set, replicate}
 use Rattle.std.proofs.lemmas.List.Edits.{sets}
 use Rattle.wire.specs.Little.{bytes16, bytes32}
 use Rattle.wire.specs.Record.{record_size}
 use Rattle.meaning.specs.Answer.{Answer, accepted, refused}
-use Rattle.meaning.specs.Book.{Edge, edge, State, state, Book}
+use Rattle.meaning.specs.Book.{Edge, edge, state, Book}
 use Rattle.meaning.specs.Chain.{Chain, live}
 use Rattle.meaning.specs.Records.{Record, recorded}
 use Rattle.book.specs.Form.{size_of, SB}

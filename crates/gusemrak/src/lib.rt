@@ -1,5 +1,6 @@
 // The face for C and Rust: nothing but calls. Each function answers by the definition that its crate's contract cites.
 #![tactic(auto)]
+
 ghost use Rattle.std.specs.Prelude.{◌≡◌, length};
 ghost use Rattle.meaning.specs.Answer.{accepted, refused};
 ghost use Rattle.book.specs.Rules.{check_book};

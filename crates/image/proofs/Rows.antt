@@ -23,7 +23,7 @@ use Rattle.meaning.specs.Walk.{Stand, stand, take-edge, failing, next}
 use Rattle.meaning.proofs.Cases.{by_eq}
 use Rattle.meaning.proofs.Walk.{next-zero, next-step, next-below}
 use Rattle.image.specs.Form.{EdgeRecord, form1, edge_at, place_at}
-use Rattle.image.specs.Questions.{seek, questions_at}
+use Rattle.image.specs.Questions.{questions_at}
 use Rattle.image.specs.Held.{MovedIs}
 use Rattle.image.specs.Steps.{StepAt, IsSteps, IsClasses, Copied, led_by, Owned}
 use Rattle.image.proofs.Accepted.{Facts, levels}

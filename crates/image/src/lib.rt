@@ -1,5 +1,6 @@
 // An image of a signature book: checked, opened and asked, walked one event at a time, run over a log.
 #![tactic(auto)]
+
 ghost use Rattle.std.specs.Prelude.{◌≡◌};
 ghost use Rattle.image.specs.Answers.{told_checked, told_asked, told_edged, told_walked, told_ran};
 ghost use Rattle.image.specs.Calls.{checked_first, fallback_in, level_in, mark_in, edge_in, next_in};

@@ -1,6 +1,7 @@
 // Lists of records: the short list, the part of a log that a record names, and the letter of an event's group.
 // `listing` has the text that the program prints.
 #![tactic(auto)]
+
 ghost use Rattle.std.specs.Prelude.{◌≡◌, ◌+◌, ◌*◌, ◌≤◌, length};
 ghost use Rattle.std.proofs.lemmas.List.Edits.{sets};
 ghost use Rattle.lists.specs.Whole.{records_from, joined};

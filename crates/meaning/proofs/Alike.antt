@@ -1,20 +1,17 @@
 -- Two images that give the same answers to every question below their place count walk and run alike: `next_alike`,
 -- `walk_alike`, `records_alike`, `run_alike`; and where their heads are the same too, their places name the same chains:
 -- `named_alike`. Assumes nothing.
-use mathlib.Core.Path.{◌≡◌, refl, sym, ap, ◌∙◌, subst}
-use mathlib.Core.Logic.{◌≢◌}
-use mathlib.Core.Bool.{Bool, true, false}
+use mathlib.Core.Path.{◌≡◌, refl, ap}
 use mathlib.Core.Option.{Option, none, some}
 use mathlib.Core.List.{List, [], ◌∷◌}
-use Prim.Native.Nat.{ℕ, zero, suc, ◌+◌, ◌-◌, ◌≤◌, ◌<◌}
+use Prim.Native.Nat.{ℕ, zero, suc, ◌-◌, ◌<◌}
 use native.Mathlib.Omega.{arith}
 use lib.ListN.{length}
-use lib.Dec.{eqb}
 use borrow.Author.Tests.{eq-eqb, ne_eqb}
 use Rattle.meaning.specs.Text.{Text}
 use Rattle.meaning.specs.Questions.{Image, edge_of, Levels, named_within}
-use Rattle.meaning.specs.Walk.{Stand, stand, next_within, next, walk}
-use Rattle.meaning.specs.Records.{Record, records_within, records_at, Outcome, run}
+use Rattle.meaning.specs.Walk.{next_within, next, walk}
+use Rattle.meaning.specs.Records.{records_within, records_at, run}
 use Rattle.meaning.proofs.Cases.{by_eq}
 use Rattle.meaning.proofs.Walk.{next-below}
 

@@ -14,7 +14,6 @@ use lib.ListN.{length, take}
 use lib.Dec.{eqb}
 use borrow.Author.Tests.{eq-eqb, ne_eqb}
 use lib.Seq.{length-take-le, take-take}
-use Rattle.meaning.specs.Choice.{when}
 use Rattle.meaning.specs.Text.{Text, events, Delta, Marks, Ends}
 use Rattle.meaning.specs.Chain.{Chain, step, chain}
 use Rattle.meaning.specs.Places.{number, Numbers}

@@ -10,9 +10,8 @@ use mathlib.Core.List.{List, [], ◌∷◌, ◌++◌}
 use Prim.Native.Nat.{ℕ, zero, suc, ◌+◌, ◌≤◌, ◌<◌}
 use native.Mathlib.Omega.{arith}
 use lib.ListN.{length, get_or}
-use lib.Dec.{eqb}
 use borrow.Author.Tests.{eq-eqb, ne_eqb}
-use Rattle.meaning.specs.Choice.{when, then}
+use Rattle.meaning.specs.Choice.{then}
 use Rattle.meaning.specs.Text.{Text, Delta, Marks}
 use Rattle.meaning.specs.Chain.{Live, live, Chain, step, steps, chain, head, level, rest}
 use Rattle.meaning.specs.Places.{Reachable}

@@ -8,7 +8,7 @@
 --   judged rs x         what the first broken rule refuses; x where none is broken
 --   leaving x out bs    the lent memory afterwards: a refusal changes nothing, a success writes bs from the start on and leaves
 --                       what is past them
-use Rattle.std.specs.Prelude.{Bool, true, false, List, [], ◌∷◌, ℕ}
+use Rattle.std.specs.Prelude.{Bool, List, [], ◌∷◌, ℕ}
 use Rattle.std.proofs.Math.Option.{Option, none, some}
 use Rattle.std.proofs.lemmas.List.Edits.{sets}
 use Rattle.meaning.specs.Choice.{when}

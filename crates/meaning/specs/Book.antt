@@ -2,7 +2,7 @@
 --   Edge, edge a q      an event and the state it leads to
 --   State, Book         a mark and edges; the states in their order
 --   delta, outs, marks  where an event leads from a state; the events of a state's edges; its mark
-use Rattle.std.specs.Prelude.{Bool, true, false, List, [], ◌∷◌, map, ℕ, get_or, eqb}
+use Rattle.std.specs.Prelude.{List, [], ◌∷◌, map, ℕ, get_or, eqb}
 use Rattle.std.proofs.Math.Option.{Option, none, some}
 use Rattle.meaning.specs.Choice.{when}
 use Rattle.meaning.specs.Text.{Delta, Marks}

@@ -7,7 +7,7 @@
 --   step δ c a          the chain after one more event
 --   chain δ t           the chain of a text, event by event
 --   head, level, rest   the first state and its reach, both 0 for the empty chain; the chain without its head
-use Rattle.std.specs.Prelude.{◌≡◌, Bool, true, false, ◌||◌, ℕ, suc, ◌<◌, eqb}
+use Rattle.std.specs.Prelude.{Bool, ◌||◌, ℕ, suc, ◌<◌, eqb}
 use Rattle.std.proofs.Math.Option.{Option, none, some}
 use mathlib.Core.List.{List, [], ◌∷◌, Memᴰ}
 use Rattle.meaning.specs.Choice.{when}

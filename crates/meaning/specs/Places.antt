@@ -5,7 +5,7 @@
 --   places δ out N      the chains of all texts in the order in which they are first met; none where there are more than N
 --   Reachable, MoreThan the chain of some text; more than N chains are reachable
 --   Numbers δ L         L numbers the chains of all texts: each once, the empty one 0, each fallback lower
-use Rattle.std.specs.Prelude.{◌≡◌, Bool, true, false, ◌&&◌, ◌||◌, ℕ, zero, suc, ◌≤◌, ◌<◌, length, get_or, eqb, ltb}
+use Rattle.std.specs.Prelude.{◌≡◌, Bool, true, false, ◌&&◌, ◌||◌, ℕ, zero, suc, ◌<◌, length, get_or, eqb, ltb}
 use Rattle.std.proofs.Math.Option.{Option, none, some}
 use mathlib.Core.List.{List, [], ◌∷◌, ◌++◌, Memᴰ}
 use Rattle.meaning.specs.Choice.{when}

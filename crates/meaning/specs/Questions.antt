@@ -4,7 +4,7 @@
 --   Levels M            what an accepted image's records obey of their levels
 --   named heads M p     the chain that a place and its fallbacks name: their heads with their levels
 --   image_of δ out mark L   the image of a book whose chains L numbers: a place has exactly the edges of its head state
-use Rattle.std.specs.Prelude.{◌≡◌, ◌≢◌, Bool, true, false, List, [], ◌∷◌, ◌++◌, map, ℕ, zero, suc, ◌+◌, ◌≤◌, ◌<◌, length, get_or, eqb}
+use Rattle.std.specs.Prelude.{◌≡◌, ◌≢◌, List, [], ◌∷◌, ◌++◌, map, ℕ, zero, suc, ◌+◌, ◌≤◌, ◌<◌, length, get_or, eqb}
 use Rattle.std.proofs.Math.Option.{Option, none, some}
 use Rattle.meaning.specs.Choice.{when, then}
 use Rattle.meaning.specs.Text.{Delta, Marks}

@@ -6,12 +6,12 @@
 --   hit, marked         the record of a live state; the marked states of a chain
 --   ending_at e rs       the records of a list with the end e
 --   run M room e p log  the run from the place p after e events, with room for so many records
-use Rattle.std.specs.Prelude.{Bool, true, false, List, [], ◌∷◌, ◌++◌, ℕ, zero, suc, ◌+◌, ◌-◌, length, eqb, leb}
+use Rattle.std.specs.Prelude.{List, [], ◌∷◌, ◌++◌, ℕ, zero, suc, ◌+◌, ◌-◌, length, eqb, leb}
 use Rattle.meaning.specs.Choice.{when}
 use Rattle.meaning.specs.Text.{Marks}
 use Rattle.meaning.specs.Chain.{Live, Chain}
 use Rattle.meaning.specs.Questions.{Image}
-use Rattle.meaning.specs.Walk.{Stand, next}
+use Rattle.meaning.specs.Walk.{next}
 
 pub record Record : Type 0 where
   pub end : ℕ

@@ -7,7 +7,7 @@
 --   Signature           a word that leads from state 0 to a marked state
 --   Ends                some ending of the text is a signature
 use Rattle.std.specs.Prelude.{◌≡◌, ◌≢◌, List, [], ◌∷◌, ◌++◌, ℕ, ◌≤◌, length}
-use Rattle.std.proofs.Math.Option.{Option, none, some}
+use Rattle.std.proofs.Math.Option.{Option, some}
 use Rattle.meaning.specs.Choice.{then}
 
 abbrev pub Text : Type 0

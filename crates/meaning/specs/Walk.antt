@@ -3,7 +3,7 @@
 --   next M p a          one event: with an edge the walk takes it; with none it goes to the fallback and tries again, one
 --                       failure step each time; at place 0 with no edge it stays there, without a step
 --   walk M p t          the events of a text one after the other, failure steps added up
-use Rattle.std.specs.Prelude.{Bool, true, false, List, [], ◌∷◌, ℕ, zero, suc, ◌+◌, eqb}
+use Rattle.std.specs.Prelude.{[], ◌∷◌, ℕ, zero, suc, ◌+◌, eqb}
 use Rattle.std.proofs.Math.Option.{Option, none, some}
 use Rattle.meaning.specs.Choice.{when}
 use Rattle.meaning.specs.Text.{Text}

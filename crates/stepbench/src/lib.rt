@@ -1,5 +1,6 @@
 // For the bench alone: an image checked once, and a log walked one event at a time. Nothing else uses this crate.
 #![tactic(auto)]
+
 ghost use Rattle.std.specs.Prelude.{◌≡◌, ◌<◌};
 ghost use Rattle.image.specs.Answers.{told_walked};
 ghost use Rattle.stepbench.specs.Sum.{WalkIs, summed, summed_first};

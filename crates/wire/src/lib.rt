@@ -1,5 +1,6 @@
 // Little-endian numbers in bytes: reading past the end gives 0, writing past the end changes nothing.
 #![tactic(auto)]
+
 ghost use Rattle.std.specs.Prelude.{◌≡◌, ◌+◌, ◌<◌, length, set};
 ghost use Rattle.wire.specs.Little.{ByteIs, NumberIs, le16_at, le32_at, put16_at, put32_at};
 

@@ -1,13 +1,13 @@
 -- `check_table` meets its contract. `left k` is what is judged from row 7 + k of the table on: each row that is passed
 -- leaves the rest, and each refusal is what its own row says. Assumes nothing.
 use mathlib.Core.Path.{◌≡◌, sym, ap, ◌∙◌}
-use Prim.Native.Nat.{ℕ, ◌-◌}
+use Prim.Native.Nat.{ℕ}
 use mathlib.Core.List.{List}
 use lib.ListN.{drop}
 use Rattle.meaning.specs.Answer.{Answer, accepted, judged}
-use Rattle.book.specs.Form.{state_record_at, edge_record_at}
+use Rattle.book.specs.Form.{state_record_at}
 use Rattle.book.specs.Model.{first_edge}
-use Rattle.book.specs.Rules.{spare_fault, state_fault, edge_fault, not_above, astray, unentered, entered, dead_end}
+use Rattle.book.specs.Rules.{spare_fault, state_fault, edge_fault}
 use Rattle.book.specs.Rules.{table_rules, told}
 use Rattle.book.specs.Reads.{StateIs, placed, state_broken, own_broken}
 use Rattle.book.specs.declared.StateRecord.{StateRecord}

@@ -1,4 +1,3 @@
-use Prim.Native.Nat.{◌-◌}
 use native.Mathlib.Omega.{arith}
 use Rattle.book.proofs.Model.{listed_start, listed_next, listed_all}
 use Rattle.book.proofs.firsts.Goals as goal

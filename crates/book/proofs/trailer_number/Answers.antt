@@ -44,56 +44,56 @@ pub returns-else-letters : goal.returns-else-letters
 returns-else-letters c =
     let a = c.args in
     λ x. sym
-        (past_2 a.n a.letters a.t x c.if-n-lt12.false c.if-n-gt65536.false ∙ test_at 3 _ _ (ap not c.if-letters.false))
+    (past_2 a.n a.letters a.t x c.if-n-lt12.false c.if-n-gt65536.false ∙ test_at 3 _ _ (ap not c.if-letters.false))
 
 pub returns-then-t-ne1 : goal.returns-then-t-ne1
 returns-then-t-ne1 c =
     let a = c.args in
     λ x. sym
-        (past_3 a.n a.letters a.t x c.if-n-lt12.false c.if-n-gt65536.false c.if-letters.true
-        ∙ rw (ne_eqb _ _ c.if-t-ne1.true))
+    (past_3 a.n a.letters a.t x c.if-n-lt12.false c.if-n-gt65536.false c.if-letters.true
+    ∙ rw (ne_eqb _ _ c.if-t-ne1.true))
 
 pub returns-then-t-eq0 : goal.returns-then-t-eq0
 returns-then-t-eq0 c =
     let a = c.args in
     λ x. sym
-        (past_4 a.n a.letters a.t x c.if-n-lt12.false c.if-n-gt65536.false c.if-letters.true c.if-t-ne1.false
-        ∙ rw (eq-eqb _ _ c.if-t-eq0.true))
+    (past_4 a.n a.letters a.t x c.if-n-lt12.false c.if-n-gt65536.false c.if-letters.true c.if-t-ne1.false
+    ∙ rw (eq-eqb _ _ c.if-t-eq0.true))
 
 pub returns-then-t-gt512 : goal.returns-then-t-gt512
 returns-then-t-gt512 c =
     let a = c.args in
     λ x. sym
-        (past_4 a.n a.letters a.t x c.if-n-lt12.false c.if-n-gt65536.false c.if-letters.true c.if-t-ne1.false
-        ∙ rw (ne_eqb _ _ c.if-t-eq0.false, lt-ltb _ _ c.if-t-gt512.true))
+    (past_4 a.n a.letters a.t x c.if-n-lt12.false c.if-n-gt65536.false c.if-letters.true c.if-t-ne1.false
+    ∙ rw (ne_eqb _ _ c.if-t-eq0.false, lt-ltb _ _ c.if-t-gt512.true))
 
 pub returns-then-t-gt2048 : goal.returns-then-t-gt2048
 returns-then-t-gt2048 c =
     let a = c.args in
     λ x. sym
-        (past_4 a.n a.letters a.t x c.if-n-lt12.false c.if-n-gt65536.false c.if-letters.true c.if-t-ne1.false
-        ∙ rw (ne_eqb _ _ c.if-t-eq0.false, le-ltb _ _ c.if-t-gt512.false, lt-ltb _ _ c.if-t-gt2048.true))
+    (past_4 a.n a.letters a.t x c.if-n-lt12.false c.if-n-gt65536.false c.if-letters.true c.if-t-ne1.false
+    ∙ rw (ne_eqb _ _ c.if-t-eq0.false, le-ltb _ _ c.if-t-gt512.false, lt-ltb _ _ c.if-t-gt2048.true))
 
 pub returns-then-t : goal.returns-then-t
 returns-then-t c =
     let a = c.args in
     λ x. sym
-        (past_5 a.n a.letters a.t x
-        (past_4 a.n a.letters a.t x c.if-n-lt12.false c.if-n-gt65536.false c.if-letters.true c.if-t-ne1.false)
-        c.if-t-eq0.false c.if-t-gt512.false c.if-t-gt2048.false ∙ rw (ne_eqb _ _ c.if-t.true))
+    (past_5 a.n a.letters a.t x
+    (past_4 a.n a.letters a.t x c.if-n-lt12.false c.if-n-gt65536.false c.if-letters.true c.if-t-ne1.false)
+    c.if-t-eq0.false c.if-t-gt512.false c.if-t-gt2048.false ∙ rw (ne_eqb _ _ c.if-t.true))
 
 pub returns-then-n-t : goal.returns-then-n-t
 returns-then-n-t c =
     let a = c.args in
     λ x. sym
-        (past_5 a.n a.letters a.t x
-        (past_4 a.n a.letters a.t x c.if-n-lt12.false c.if-n-gt65536.false c.if-letters.true c.if-t-ne1.false)
-        c.if-t-eq0.false c.if-t-gt512.false c.if-t-gt2048.false ∙ rw (eq-eqb _ _ c.if-t.false, lt-ltb _ _ c.if-n-t.true))
+    (past_5 a.n a.letters a.t x
+    (past_4 a.n a.letters a.t x c.if-n-lt12.false c.if-n-gt65536.false c.if-letters.true c.if-t-ne1.false)
+    c.if-t-eq0.false c.if-t-gt512.false c.if-t-gt2048.false ∙ rw (eq-eqb _ _ c.if-t.false, lt-ltb _ _ c.if-n-t.true))
 
 pub returns : goal.returns
 returns c =
     let a = c.args in
     λ x. sym
-        (past_5 a.n a.letters a.t x
-        (past_4 a.n a.letters a.t x c.if-n-lt12.false c.if-n-gt65536.false c.if-letters.true c.if-t-ne1.false)
-        c.if-t-eq0.false c.if-t-gt512.false c.if-t-gt2048.false ∙ rw (eq-eqb _ _ c.if-t.false, le-ltb _ _ c.if-n-t.false))
+    (past_5 a.n a.letters a.t x
+    (past_4 a.n a.letters a.t x c.if-n-lt12.false c.if-n-gt65536.false c.if-letters.true c.if-t-ne1.false)
+    c.if-t-eq0.false c.if-t-gt512.false c.if-t-gt2048.false ∙ rw (eq-eqb _ _ c.if-t.false, le-ltb _ _ c.if-n-t.false))

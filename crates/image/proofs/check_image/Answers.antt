@@ -29,14 +29,13 @@ place_offset-requires c =
     omega arith
 
 pub edges_fault-requires : goal.edges_fault-requires
-edges_fault-requires c =
-    (
-      told_sized _ _ _ c.places-places.ensures.is c.edges-edges.ensures.is
-          (sym c.trailer_right.ensures ∙ c.if-trailer_right.true),
-      (told_none _ _ _ c.places-places.ensures.is c.edges-edges.ensures.is
-          (sym c.trailer_right.ensures ∙ c.if-trailer_right.true) _
-          c.places_fault.ensures.is c.in-Nothing.is),
-    )
+edges_fault-requires c = (
+  told_sized _ _ _ c.places-places.ensures.is c.edges-edges.ensures.is
+      (sym c.trailer_right.ensures ∙ c.if-trailer_right.true),
+  (told_none _ _ _ c.places-places.ensures.is c.edges-edges.ensures.is
+      (sym c.trailer_right.ensures ∙ c.if-trailer_right.true) _
+      c.places_fault.ensures.is c.in-Nothing.is),
+)
 
 pub edge_offset-requires : goal.edge_offset-requires
 edge_offset-requires c =

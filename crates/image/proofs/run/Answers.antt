@@ -20,14 +20,13 @@ returns-then-start-log c =
     c.if-places-place.false (omega arith)
 
 pub run-requires : goal.run-requires
-run-requires c =
-    (
-      rw c.wide32.ensures.is
-          (held _ _ _ (sym (ap told_checked c.in-Fine.is) ∙ c.check_image.ensures)),
-      omega
-          arith,
-      omega arith,
-    )
+run-requires c = (
+  rw c.wide32.ensures.is
+      (held _ _ _ (sym (ap told_checked c.in-Fine.is) ∙ c.check_image.ensures)),
+  omega
+      arith,
+  omega arith,
+)
 
 pub returns-in-Refused : goal.returns-in-Refused
 returns-in-Refused c =

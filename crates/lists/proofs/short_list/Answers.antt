@@ -18,13 +18,13 @@ pub returns-then-out-kept : goal.returns-then-out-kept
 returns-then-out-kept c =
     let start = c.args in
     let o = short_long start.list.now start.out.now c.if-list-ne0.false _ _
-        (omega (arith, c.le32-before.ensures.is)) c.count_kept-kept.ensures c.if-out-kept.true in
+    (omega (arith, c.le32-before.ensures.is)) c.count_kept-kept.ensures c.if-out-kept.true in
     record { answer = o.0; memory = o.1 }
 
 pub returns : goal.returns
 returns c =
     let start = c.args in
     let o = short_fits start.list.now start.out.now c.if-list-ne0.false _ _
-        (omega (arith, c.le32-before.ensures.is)) c.count_kept-kept.ensures c.if-out-kept.false
-        c.write_kept.ensures in
+    (omega (arith, c.le32-before.ensures.is)) c.count_kept-kept.ensures c.if-out-kept.false
+    c.write_kept.ensures in
     record { answer = o.0; memory = o.1 }

@@ -1,4 +1,3 @@
-use Prim.Native.Nat.{◌-◌}
 use native.Mathlib.Omega.{arith}
 use Rattle.compile.proofs.Opening.{exploring_start, exploring_end, exploring_over, exploring_next}
 use Rattle.compile.proofs.explore.explore.Goals as goal

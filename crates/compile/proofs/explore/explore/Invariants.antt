@@ -1,8 +1,6 @@
 -- `explore` meets its contract: the places from p on are still to be opened. Assumes nothing.
 use Prim.Native.Nat.{◌-◌}
-use Rattle.meaning.specs.Places.{places}
 use Rattle.book.specs.Model.{table_book}
-use Rattle.image.proofs.Accepted.{levels}
 use Rattle.compile.specs.Work.{rows}
 use Rattle.compile.proofs.Opening.{Exploring}
 use Rattle.compile.proofs.explore.explore.Given as goal

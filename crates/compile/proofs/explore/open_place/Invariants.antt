@@ -6,7 +6,6 @@ use Rattle.meaning.specs.Book.{delta, outs}
 use Rattle.meaning.specs.Places.{opened}
 use Rattle.book.proofs.Model.{events_from}
 use Rattle.book.specs.Model.{table_book}
-use Rattle.image.proofs.Accepted.{levels}
 use Rattle.compile.specs.Work.{rows, chain_of, list_of}
 use Rattle.compile.proofs.Opening.{Meeting}
 use Rattle.compile.proofs.Alike.{Passed}

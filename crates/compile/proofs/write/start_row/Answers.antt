@@ -1,5 +1,4 @@
 use mathlib.Core.Path.{refl}
-use Prim.Native.Nat.{◌-◌}
 use native.Mathlib.Omega.{arith}
 use Rattle.compile.proofs.Reading.{rowing_start, rowing_next, rowing_end, edges_rise}
 use Rattle.compile.proofs.write.start_row.Goals as goal

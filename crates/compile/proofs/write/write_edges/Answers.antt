@@ -1,4 +1,3 @@
-use Prim.Native.Nat.{◌-◌}
 use native.Mathlib.Omega.{arith}
 use Rattle.compile.proofs.Reading.{known_edges, edges_reach}
 use Rattle.compile.proofs.Records.{wrote-length, edging_start, edging_end, edging_room, edging_next}

@@ -1,4 +1,3 @@
-use Prim.Native.Nat.{◌-◌}
 use native.Mathlib.Omega.{arith}
 use Rattle.compile.proofs.Records.{placing_length, placing_start, placing_end, placing_next, placing_few}
 use Rattle.compile.proofs.write.write_places.Goals as goal

@@ -5,7 +5,7 @@ use Rattle.image.specs.Held.{Rising}
 use Rattle.image.specs.Questions.{seek}
 use Rattle.image.specs.Form.{form1, edge_at}
 use mathlib.Core.Path.{◌≡◌}
-use Prim.Native.Nat.{◌+◌, ◌-◌, ◌≤◌, ◌<◌}
+use Prim.Native.Nat.{◌+◌, ◌≤◌, ◌<◌}
 use Rattle.image.proofs.lookup.halved.Given as goal
 
 abbrev pub invariant-loop-left : goal.invariant-loop-left

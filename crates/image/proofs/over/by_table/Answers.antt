@@ -1,9 +1,7 @@
 use Rattle.image.proofs.Turn.{ready_then, carried_none, carried_then, run-stays}
 use Rattle.meaning.proofs.Cases.{true_false}
 use native.Mathlib.Omega.{arith}
-use mathlib.Core.Bool.{false}
 use mathlib.Core.Path.{◌∙◌}
-use Prim.Native.Nat.{◌-◌}
 use Rattle.image.proofs.over.by_table.Goals as goal
 
 pub returns-then-from : goal.returns-then-from
@@ -44,11 +42,10 @@ shape_of-out-then-g c =
     c.turn-g.ensures.0.kept ∙ c.loop-g.invariant.0.kept
 
 pub returns-then-g : goal.returns-then-g
-returns-then-g c =
-    (
-      carried_then _ _ _ _ _ _ _ _ _ _ c.loop-g.invariant.0 c.turn-g.ensures.0,
-      λ e. absurd (true_false c.if-g.true e),
-    )
+returns-then-g c = (
+  carried_then _ _ _ _ _ _ _ _ _ _ c.loop-g.invariant.0 c.turn-g.ensures.0,
+  λ e. absurd (true_false c.if-g.true e),
+)
 
 pub loop-g-smaller : goal.loop-g-smaller
 loop-g-smaller c =

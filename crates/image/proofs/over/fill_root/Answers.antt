@@ -4,7 +4,7 @@ use Rattle.image.specs.Held.{edges_of}
 use Rattle.image.specs.Form.{form1, edge_at}
 use native.Mathlib.Omega.{arith}
 use mathlib.Core.Path.{refl, ap}
-use Prim.Native.Nat.{ℕ, ◌+◌, ◌-◌}
+use Prim.Native.Nat.{ℕ, ◌+◌}
 use Rattle.image.proofs.over.fill_root.Goals as goal
 
 pub loop-j-init : goal.loop-j-init

@@ -4,7 +4,6 @@ use Rattle.image.specs.Form.{form1, place_at}
 use lib.ListN.{length-set}
 use native.Mathlib.Omega.{arith}
 use mathlib.Core.Path.{◌≡◌}
-use Prim.Native.Nat.{◌-◌}
 use Rattle.image.proofs.over.pack.Goals as goal
 
 pub loop-p-init : goal.loop-p-init

@@ -6,17 +6,16 @@ use mathlib.Core.Path.{◌∙◌}
 use Rattle.image.proofs.over.run.Goals as goal
 
 pub walk-over-requires : goal.walk-over-requires
-walk-over-requires c =
-    (
-      record {
-        image = c.requires.0;
-        packed = c.pack.ensures;
-        held = omega arith;
-        short = c.requires.2;
-        stands = run_start _ _ _ _ _ c.requires.1;
-      },
-      c.fill_root.ensures,
-    )
+walk-over-requires c = (
+  record {
+    image = c.requires.0;
+    packed = c.pack.ensures;
+    held = omega arith;
+    short = c.requires.2;
+    stands = run_start _ _ _ _ _ c.requires.1;
+  },
+  c.fill_root.ensures,
+)
 
 pub returns : goal.returns
 returns c =

@@ -9,11 +9,10 @@ tabled-requires c =
     (ready_then _ _ _ _ _ _ _ _ _ _ c.requires.0 c.by_search-g.ensures.0, c.requires.1)
 
 pub returns-then-pays : goal.returns-then-pays
-returns-then-pays c =
-    (
-      carried_then _ _ _ _ _ _ _ _ _ _ c.by_search-g.ensures.0 c.tabled.ensures.0,
-      c.tabled.ensures.1,
-    )
+returns-then-pays c = (
+  carried_then _ _ _ _ _ _ _ _ _ _ c.by_search-g.ensures.0 c.tabled.ensures.0,
+  c.tabled.ensures.1,
+)
 
 pub by_search-h-requires : goal.by_search-h-requires
 by_search-h-requires c =

@@ -3,7 +3,6 @@ use Rattle.image.specs.Held.{edges_of}
 use Rattle.image.specs.Form.{form1, edge_at}
 use native.Mathlib.Omega.{arith}
 use mathlib.Core.Path.{◌≡◌}
-use Prim.Native.Nat.{◌-◌}
 use Rattle.image.proofs.steps.classes.Goals as goal
 
 pub loop-j-init : goal.loop-j-init
@@ -28,20 +27,18 @@ overflow_add-n c =
     omega arith
 
 pub loop-j-preserved-then-classes-event-eq0 : goal.loop-j-preserved-then-classes-event-eq0
-loop-j-preserved-then-classes-event-eq0 c =
-    (
-      class_new (edge_at form1 c.args.image.now c.args.places) _ _ _ _ c.loop-j.invariant.0
-          c.edge_event-event.ensures.small c.edge_event-event.ensures.is,
-      omega arith,
-    )
+loop-j-preserved-then-classes-event-eq0 c = (
+  class_new (edge_at form1 c.args.image.now c.args.places) _ _ _ _ c.loop-j.invariant.0
+      c.edge_event-event.ensures.small c.edge_event-event.ensures.is,
+  omega arith,
+)
 
 pub loop-j-preserved : goal.loop-j-preserved
-loop-j-preserved c =
-    (
-      class_known (edge_at form1 c.args.image.now c.args.places) _ _ _ _ c.loop-j.invariant.0
-          c.edge_event-event.ensures.is c.if-classes-event-eq0.false,
-      omega arith,
-    )
+loop-j-preserved c = (
+  class_known (edge_at form1 c.args.image.now c.args.places) _ _ _ _ c.loop-j.invariant.0
+      c.edge_event-event.ensures.is c.if-classes-event-eq0.false,
+  omega arith,
+)
 
 pub returns : goal.returns
 returns c =

@@ -1,7 +1,7 @@
 use Rattle.image.proofs.Rows.{copy_start, copy_turn}
 use native.Mathlib.Omega.{arith}
 use mathlib.Core.Path.{◌≡◌, refl}
-use Prim.Native.Nat.{◌+◌, ◌-◌}
+use Prim.Native.Nat.{◌+◌}
 use Rattle.image.proofs.steps.copy_row.Goals as goal
 
 pub loop-i-init : goal.loop-i-init

@@ -6,7 +6,7 @@ use lib.ListN.{length, length-replicate}
 use mathlib.Core.Path.{ap, ◌∙◌}
 use mathlib.Core.Logic.{◌≢◌}
 use mathlib.Core.List.{List}
-use Prim.Native.Nat.{ℕ, ◌-◌}
+use Prim.Native.Nat.{ℕ}
 use Rattle.image.proofs.steps.fill.Goals as goal
 
 pub own_edges-requires : goal.own_edges-requires
@@ -71,8 +71,7 @@ loop-p-preserved c =
     let q = c.args.places in
     let F = facts xs q (edges_of xs) 0 0 c.requires.0.is in
     let i = c.loop-p in
-    let nz : i.p ≢ 0 = λ z. omega arith in
-    (
+    let nz : i.p ≢ 0 = λ z. omega arith in (
       rows_more xs q (edges_of xs) F _ _ c.requires.1 i.p _ c.loop-p-test.true nz
           c.fallback-fallback.ensures.is _ _ _ i.invariant.0 c.copy_row.ensures
           c.own_edges-in-loop-p.ensures,

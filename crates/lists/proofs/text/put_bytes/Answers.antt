@@ -1,4 +1,3 @@
-use Prim.Native.Nat.{◌-◌}
 use native.Mathlib.Omega.{arith}
 use Rattle.lists.proofs.Wrote.{wrote_none, wrote-length, wrote-byte, wrote_all}
 use Rattle.lists.proofs.text.put_bytes.Goals as goal
