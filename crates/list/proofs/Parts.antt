@@ -26,7 +26,6 @@ use Rattle.lists.specs.Whole.{decoded}
 use Rattle.lists.specs.Listing.{lines_text}
 use Rattle.lists.proofs.Wrote.{wrote_none}
 use Rattle.list.specs.Part.{no_records, part_answer, part_records, Parted}
-use Rattle.list.specs.declared.Part.{Part}
 
 -- an accepted image's other two numbers are 0
 pub accepted_zeros : (image : List ℕ) (q t a b : ℕ) → check_image image ≡ accepted q t a b

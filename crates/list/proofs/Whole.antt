@@ -9,12 +9,11 @@
 -- Assumes nothing.
 use mathlib.Core.Path.{◌≡◌, refl, ap, ◌∙◌}
 use mathlib.Core.List.{List, [], ◌∷◌, ◌++◌, map}
-use Prim.Native.Nat.{ℕ, zero, suc, ◌+◌, ◌*◌, ◌-◌, ◌≤◌, ◌<◌}
+use Prim.Native.Nat.{ℕ, zero, suc, ◌+◌, ◌*◌, ◌≤◌, ◌<◌}
 use native.Mathlib.Omega.{arith}
 use lib.ListN.{length, take, drop, get_or, length-append, length-drop}
 use lib.Seq.{sets, sets-eq, take_at, drop-length, drop-drop, length-take-le}
 use lib.Dec.{eqb}
-use Rattle.meaning.specs.Answer.{Answer, accepted}
 use Rattle.meaning.specs.Questions.{Image}
 use Rattle.meaning.specs.Walk.{next}
 use Rattle.meaning.specs.Records.{Record, records_within, records_at, Outcome, run}

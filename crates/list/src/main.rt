@@ -1,14 +1,15 @@
 // The listing of a log by a signature book: reads `book.sb` and `log.ev` and prints the full list, or what is refused.
 #![tactic(auto)]
-ghost use Rattle.std.specs.Prelude.{◌≤◌, ◌<◌, ◌≡◌, length};
-ghost use Rattle.io.specs.Counts.{IsPrefixLen};
+
+ghost use Rattle.std.specs.Prelude.{◌≤◌, ◌<◌, ◌≡◌, length, take};
 ghost use Rattle.image.specs.Calls.{places_in};
 ghost use Rattle.image.specs.Rules.{check_image};
 ghost use Rattle.list.specs.Part.{Parted, steps_over};
 
 use compile::Compiled;
 use image::Ran;
-use libc::STDOUT_FILENO;
+use std::fs::File;
+use std::io::{self, Read, Write};
 
 // One byte more than a book may have, and than the program takes of a log: so a file that is too long is seen.
 const BOOK: usize = 65537;
@@ -71,8 +72,13 @@ fn next_part(image: &[u8], place: u32, log: &[u8], at: usize, text: &mut [u8]) -
     }
 }
 
+// Standard output is written to and not asked: what it doesn't take is lost, and the listing goes on.
+fn show(rt: &HostRuntime, bytes: &[u8]) {
+    let _ = io::writer(rt).write_all(bytes);
+}
+
 // Prints the lines of the full list, part by part, and answers the run's failure steps. Every part takes an event.
-fn print_parts(image: &[u8], log: &[u8]) -> usize
+fn print_parts(rt: &HostRuntime, image: &[u8], log: &[u8]) -> usize
     requires { (length log.now ≤ 32768) × (0 < places_in (check_image image.now)) }
     ensures { result ≡ steps_over image.now log.now }
 {
@@ -83,7 +89,7 @@ fn print_parts(image: &[u8], log: &[u8]) -> usize
     while at < log.len() {
         let part = next_part(image, place, log, at, &mut text);
         let length = part.length;
-        io::write_all(STDOUT_FILENO, &text[..length]);
+        show(rt, &text[..length]);
         at += part.taken;
         place = part.place;
         steps += part.steps;
@@ -92,29 +98,29 @@ fn print_parts(image: &[u8], log: &[u8]) -> usize
 }
 
 // The whole listing.
-fn print_listing(image: &[u8], places: usize, log: &[u8])
+fn print_listing(rt: &HostRuntime, image: &[u8], places: usize, log: &[u8])
     requires { (length log.now ≤ 32768) × (places ≡ places_in (check_image image.now)) × (0 < places) }
 {
     let mut line = [0u8; LINE];
     let header = lists::listing::put_header(&mut line, 0);
-    io::write_all(STDOUT_FILENO, &line[..header]);
-    let steps = print_parts(image, log);
+    show(rt, &line[..header]);
+    let steps = print_parts(rt, image, log);
     let last = lists::listing::put_last(&mut line, 0, places, steps);
-    io::write_all(STDOUT_FILENO, &line[..last]);
+    show(rt, &line[..last]);
 }
 
-fn print_refused(number: usize, place: usize) {
+fn print_refused(rt: &HostRuntime, number: usize, place: usize) {
     let mut line = [0u8; LINE];
     let length = lists::listing::put_refused(&mut line, 0, number, place);
-    io::write_all(STDOUT_FILENO, &line[..length]);
+    show(rt, &line[..length]);
 }
 
 // What is printed for a book and a log: the book's and the compile's refusals come before the log's.
-fn print_all(book: &[u8], log: &[u8]) {
+fn print_all(rt: &HostRuntime, book: &[u8], log: &[u8]) {
     let mut image = [0u8; IMAGE];
     match compile::compile(book, &mut image) {
         Compiled::Refused { number, place } => {
-            print_refused(number as usize, place as usize);
+            print_refused(rt, number as usize, place as usize);
         }
         Compiled::Made {
             length,
@@ -122,31 +128,42 @@ fn print_all(book: &[u8], log: &[u8]) {
             edges: _,
         } => {
             if LOG <= log.len() {
-                print_refused(25, 0);
+                print_refused(rt, 25, 0);
             } else {
-                print_listing(&image[..length], places, log);
+                print_listing(rt, &image[..length], places, log);
             }
         }
     }
 }
 
-// The file is read until it ends or the buffer is full; one that can't be opened reads as empty.
-fn read_file(path: &[u8], bytes: &mut [u8]) -> usize
-    ensures { IsPrefixLen result bytes.new }
+// The file is read until it ends, can't be read on or the buffer is full.
+fn read_full(file: &mut File, bytes: &mut [u8]) -> usize
+    ensures { (result ≤ length bytes.new) × (result ≡ length (take result bytes.new)) }
 {
-    let file = os::open_read(path);
-    if file < 0 {
-        return 0;
+    let mut done = 0;
+    while done < bytes.len() {
+        match file.read(&mut bytes[done..]) {
+            Ok(0) | Err(_) => break,
+            Ok(n) => done += n,
+        }
     }
-    let n = io::read_full(file, bytes);
-    libc::close(file);
-    n
+    done
 }
 
-fn main() {
+// A file that can't be opened reads as empty.
+fn read_file(rt: &HostRuntime, path: &str, bytes: &mut [u8]) -> usize
+    ensures { (result ≤ length bytes.new) × (result ≡ length (take result bytes.new)) }
+{
+    match File::open(rt, path) {
+        Ok(mut file) => read_full(&mut file, bytes),
+        Err(_) => 0,
+    }
+}
+
+fn main(rt: HostRuntime) {
     let mut book = [0u8; BOOK];
-    let n = read_file(b"book.sb", &mut book);
+    let n = read_file(&rt, "book.sb", &mut book);
     let mut log = [0u8; LOG];
-    let m = read_file(b"log.ev", &mut log);
-    print_all(&book[..n], &log[..m]);
+    let m = read_file(&rt, "log.ev", &mut log);
+    print_all(&rt, &book[..n], &log[..m]);
 }
