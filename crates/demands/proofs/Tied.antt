@@ -1,8 +1,8 @@
 -- The contracts that the page `Determined` writes out are those of the source: for each function, what its contract tells a
 -- caller, of two outcomes for the same arguments, makes them one. A contract changed at its source and not on the page is
 -- refused here. κs are the lifetimes, a the arguments, e and f the arguments at exit.
--- The theorems of image::open and of the methods of Image and Walk are walked by hand and have no such reading: for these,
--- at the end, the clause of the source is the page's contract itself. Assumes nothing.
+-- Of image::open and of the methods of Image and Walk, at the end, the clause of the source is the page's contract itself.
+-- Assumes nothing.
 use mathlib.Core.Path.{◌≡◌, refl}
 use mathlib.Core.List.{List}
 use Prim.Native.Nat.{ℕ}
@@ -299,7 +299,7 @@ lists_put-decimal : (κs : Lfts 1) (a : Dens κs lists-put-decimal-kinds.ps) (r 
 lists_put-decimal κs a r s e f h k =
     determined.of_lists.put-decimal a.0.now a.1.0 a.1.1.0 r s e.0.now f.0.now h k
 
--- ---- walked by hand: x' is an argument x at entry and at exit
+-- ---- the clause itself: x' is an argument x at entry and at exit
 module _ {M : Type 1} {𝓤 : Ura M} (𝓛 : Logic 𝓤) (mem : Memory → SProp 𝓤) (run : Routine → Fun 𝓤)
     (κs : Lfts 1) where
   image_open : (x : _) (x' : _) (r : Image)
