@@ -1,9 +1,8 @@
-# shellcheck shell=bash
+# shellcheck shell=bash disable=SC2034,SC2154
 # Read by the scripts beside it: what has landed, the proved library, and the programs built for both. They set `root`
 # before; a script that counts tests has its own `give_up`.
 
 tests="$root/tests"
-# Not target/: the gate removes that.
 export CARGO_TARGET_DIR="$root/build/cargo"
 
 # The functions of the library; with all of them landed nothing is waived any more.
@@ -23,15 +22,27 @@ read_landed() {
     [[ $functions != "$all " ]] || mode=(full)
 }
 
+# Where `rt lib` and `rt run` write.
+export GUSEMRAK_LIB="$root/crates/gusemrak/out"
+export GUSEMRAK_LIST="$root/crates/list/out/list"
+
 # The proved library, and the program `list` where it has landed.
 build_library() {
     [[ ${#features[@]} -gt 0 ]] || return 0
-    (cd "$root" && rt staticlib gusemrak) || give_up "rt staticlib gusemrak failed"
-    export GUSEMRAK_LIB="$root/target/staticlib"
-    if [[ " ${features[*]} " == *" f-list "* ]]; then
-        (cd "$root" && rt check list) || give_up "rt check list failed"
-        export GUSEMRAK_LIST="$root/target/bin/list"
-    fi
+    (cd "$root/crates/gusemrak" && rt lib) || give_up "rt lib failed in crates/gusemrak"
+    [[ " ${features[*]} " != *" f-list "* ]] || build_list
+}
+
+# `rt run` proves and builds the program, and then runs it in crates/list, where no book lies: what it prints there and
+# its status say nothing. Whether it was built is told by the file, which a build that fails does not write.
+build_list() {
+    local log
+    log=$(mktemp)
+    rm -f "$GUSEMRAK_LIST"
+    (cd "$root/crates/list" && rt run) </dev/null >"$log" 2>&1
+    [[ -x $GUSEMRAK_LIST ]] || cat "$log"
+    rm -f "$log"
+    [[ -x $GUSEMRAK_LIST ]] || give_up "rt run built no program in crates/list"
 }
 
 # The runner, and the differ where anything has landed.

@@ -1,4 +1,4 @@
-# shellcheck shell=bash
+# shellcheck shell=bash disable=SC2154
 # Read by the scripts beside it, after tests/building.sh: the C programs of the fuzzer.
 
 fuzz="$root/tests/fuzz"
