@@ -27,7 +27,7 @@
 //!
 //! The work is done by the proved library, `libgusemrak.a`; this crate gives its calls Rust's shape. What it reads by
 //! itself, beside them, says so: the readers at the end of [`Book`] and [`Image`], and [`read_list`]. Build it with
-//! `GUSEMRAK_LIB` set to the library's directory, or after `rt staticlib gusemrak` at the repository's root.
+//! `GUSEMRAK_LIB` set to the library's directory, or after `rt lib` in `crates/gusemrak`.
 
 #![warn(missing_docs)]
 #![deny(unsafe_code)]
