@@ -1,3 +1,4 @@
+# shellcheck shell=bash
 # What the scripts share: where things are, the library, and the facts that stand beside every figure.
 root=$(cd "$(dirname "${BASH_SOURCE[0]}")/.." && pwd)
 bench=$root/bench
@@ -24,16 +25,15 @@ command_of() { command -v "$1" >/dev/null || packages "$2"; }
 
 # LIB and STEPLIB, empty where there is none. GUSEMRAK_LIB names a folder that has them already, as for the tests.
 libraries() {
-    LIB= STEPLIB=
-    local folder=${GUSEMRAK_LIB:-$root/target/staticlib} name
-    for name in gusemrak stepbench; do
-        if [ -z "${GUSEMRAK_LIB:-}" ] && grep -q "^$name:" "$root/crates.txt"; then
-            (cd "$root" && rt staticlib "$name") >"$out/$name.log" 2>&1 || { cat "$out/$name.log" >&2; return 1; }
-        fi
-    done
-    [ -f "$folder/libgusemrak.a" ] && LIB=$folder/libgusemrak.a
-    [ -f "$folder/libstepbench.a" ] && STEPLIB=$folder/libstepbench.a
-    return 0
+    LIB=$(library gusemrak) && STEPLIB=$(library stepbench)
+}
+# Prints where a library is, built anew by `rt lib` unless GUSEMRAK_LIB is set; nothing where there is none.
+library() {
+    local name=$1 folder=${GUSEMRAK_LIB:-$root/crates/$1/out}
+    if [ -z "${GUSEMRAK_LIB:-}" ] && grep -q "^$name staticlib:" "$root/crates.txt"; then
+        (cd "$root/crates/$name" && rt lib) >"$out/$name.log" 2>&1 || { cat "$out/$name.log" >&2; return 1; }
+    fi
+    [ ! -f "$folder/lib$name.a" ] || echo "$folder/lib$name.a"
 }
 
 # Has the library this function? They land one after another.
