@@ -218,7 +218,13 @@ fn by_search(
             continue;
         }
         let moved = step(image, places, root, g.place, event);
-        g = turn(image, places, table, room, base, log, moved, out, g);
+        let next = turn(image, places, table, room, base, log, moved, out, g);
+        // field by field: with the struct its padding would be written anew at every event
+        g.taken = next.taken;
+        g.place = next.place;
+        g.records = next.records;
+        g.steps = next.steps;
+        g.full = next.full;
         if g.full {
             return g;
         }
@@ -260,7 +266,12 @@ fn by_table(
             continue;
         }
         let moved = steps::look(image, places, classes, n, rows, g.place, event);
-        g = turn(image, places, table, room, base, log, moved, out, g);
+        let next = turn(image, places, table, room, base, log, moved, out, g);
+        g.taken = next.taken;
+        g.place = next.place;
+        g.records = next.records;
+        g.steps = next.steps;
+        g.full = next.full;
         if g.full {
             return g;
         }

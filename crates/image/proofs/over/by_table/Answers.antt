@@ -29,8 +29,8 @@ pub look-moved-requires : goal.look-moved-requires
 look-moved-requires c =
     (c.requires.0.image, c.loop-g.invariant.0.stands.below, c.wide-event.ensures.small, c.requires.3)
 
-pub turn-g-requires : goal.turn-g-requires
-turn-g-requires c =
+pub turn-next-requires : goal.turn-next-requires
+turn-next-requires c =
     let i = c.loop-g in (
       ready_then _ _ _ _ _ _ _ _ _ _ c.requires.0 i.invariant.0,
       omega arith,
@@ -39,23 +39,23 @@ turn-g-requires c =
 
 pub shape_of-out-then-g : goal.shape_of-out-then-g
 shape_of-out-then-g c =
-    c.turn-g.ensures.0.kept ∙ c.loop-g.invariant.0.kept
+    c.turn-next.ensures.0.kept ∙ c.loop-g.invariant.0.kept
 
 pub returns-then-g : goal.returns-then-g
 returns-then-g c = (
-  carried_then _ _ _ _ _ _ _ _ _ _ c.loop-g.invariant.0 c.turn-g.ensures.0,
+  carried_then _ _ _ _ _ _ _ _ _ _ c.loop-g.invariant.0 c.turn-next.ensures.0,
   λ e. absurd (true_false c.if-g.true e),
 )
 
 pub loop-g-smaller : goal.loop-g-smaller
 loop-g-smaller c =
     let l = c.loop-g-test.true in
-    let e = c.turn-g.ensures.1 c.if-g.false in
+    let e = c.turn-next.ensures.1 c.if-g.false in
     omega arith
 
 pub loop-g-preserved : goal.loop-g-preserved
 loop-g-preserved c =
-    (carried_then _ _ _ _ _ _ _ _ _ _ c.loop-g.invariant.0 c.turn-g.ensures.0, c.if-g.false)
+    (carried_then _ _ _ _ _ _ _ _ _ _ c.loop-g.invariant.0 c.turn-next.ensures.0, c.if-g.false)
 
 pub shape_of-out : goal.shape_of-out
 shape_of-out c = c.loop-g.invariant.0.kept
