@@ -7,23 +7,23 @@ pub returns-then-base-log : goal.returns-then-base-log
 returns-then-base-log c = part_high c.args.log.now _ _ _ (omega arith)
 
 pub returns-then-length-eq0 : goal.returns-then-length-eq0
-returns-then-length-eq0 c = part_none c.args.log.now _ _ _ (omega arith) c.if-length-eq0.true
+returns-then-length-eq0 c = part_none c.args.log.now _ _ _ (omega arith) (omega arith)
 
 pub returns-then-end-length : goal.returns-then-end-length
 returns-then-end-length c =
-    part_long c.args.log.now _ _ _ (omega arith) c.if-length-eq0.false c.if-end-length.true
+    part_long c.args.log.now _ _ _ (omega arith) (omega arith) c.if-end-length.true
 
 pub returns-then-end-base : goal.returns-then-end-base
 returns-then-end-base c =
-    part_early c.args.log.now _ _ _ (omega arith) c.if-length-eq0.false
+    part_early c.args.log.now _ _ _ (omega arith) (omega arith)
     c.if-end-length.false c.if-end-base.true
 
 pub returns-then-base-log-2 : goal.returns-then-base-log-2
 returns-then-base-log-2 c =
-    part_late c.args.log.now _ _ _ (omega arith) c.if-length-eq0.false
+    part_late c.args.log.now _ _ _ (omega arith) (omega arith)
     c.if-end-base.false c.if-base-log-2.true
 
 pub returns : goal.returns
 returns c =
-    part_fine c.args.log.now _ _ _ (omega arith) c.if-length-eq0.false
+    part_fine c.args.log.now _ _ _ (omega arith) (omega arith)
     c.if-end-base.false c.if-base-log-2.false

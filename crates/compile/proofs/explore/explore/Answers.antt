@@ -28,18 +28,18 @@ returns-then-places-gt1024 c =
     let few = x.few in
     let all = x.fit.held.few in
     let m = c.count_of-edges.ensures.small in
-    exploring_over x c.loop-p-test.true c.open_place-places.ensures _ c.if-places-gt1024.true (omega arith)
+    exploring_over x c.loop-p-test.true c.open_place-places.ensures _ (omega arith) (omega arith)
 
 pub loop-p-smaller : goal.loop-p-smaller
 loop-p-smaller c =
-    let all = (c.open_place-places.ensures.fit c.if-places-gt1024.false).held.few in
+    let all = (c.open_place-places.ensures.fit (omega arith)).held.few in
     omega arith
 
 pub loop-p-preserved : goal.loop-p-preserved
 loop-p-preserved c =
     exploring_next c.loop-p.invariant c.loop-p-test.true c.open_place-places.ensures
     c.entry.ensures.0 c.count_of-edges.ensures.is c.count_of-edges.ensures.small
-    c.if-places-gt1024.false
+    (omega arith)
 
 pub returns : goal.returns
 returns c = exploring_end c.loop-p.invariant c.loop-p-test.false

@@ -14,7 +14,7 @@ pub returns-then-mark_of-ne0 : goal.returns-then-mark_of-ne0
 returns-then-mark_of-ne0 c =
     link_here c.requires.0
     c.loop-p.invariant.1 c.loop-p-test.true
-    c.entry.ensures.0 c.mark_of.ensures.is c.if-mark_of-ne0.true
+    c.entry.ensures.0 c.mark_of.ensures.is (omega arith)
 
 pub loop-p-smaller : goal.loop-p-smaller
 loop-p-smaller c =
@@ -27,7 +27,7 @@ loop-p-preserved c =
     in (
       omega arith,
       link_on c.requires.0 c.loop-p.invariant.1 c.loop-p-test.true c.entry.ensures.0
-          c.mark_of.ensures.is c.if-mark_of-ne0.false
+          c.mark_of.ensures.is (omega arith)
           c.below-p.ensures,
     )
 
