@@ -11,7 +11,8 @@ import re
 import sys
 
 WORD = re.compile(r"[A-Za-z_][\w'′₀-₉]*(?:-[\w'′₀-₉]+)*")
-TOP = re.compile(r"(?!use |unfolding |syntax |mod |pub mod |where|module |open |infix)(?:(?:abbrev|unfoldable|opaque|pub|data|record) )*([A-Za-z_][\w'′₀-₉-]*)(?: |$)")
+SKIPPED = "use |unfolding |syntax |mod |pub mod |where|module |open |infix"
+TOP = re.compile(r"(?!" + SKIPPED + r")(?:(?:abbrev|unfoldable|opaque|pub|data|record) )*([A-Za-z_][\w'′₀-₉-]*)(?: |$)")
 FIELD = re.compile(r"\s+(?:(?:abbrev|unfoldable|pub|opaque) )*([a-z][\w'′₀-₉-]*) : ")
 # words of the library that stand in the names of lemmas
 LIBRARY = set("length get_or map take drop append mem set sets zero suc min cond reverse eqb leb ltb put16 put32".split())

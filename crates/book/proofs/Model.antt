@@ -1,9 +1,9 @@
 -- The model of a state table, state by state and edge by edge: what the functions read is what the model has.
 -- Assumes nothing.
---   state_in, state_out         a state below S; any other
+--   state_in, state_out             a state below S; any other
 --   mark_in_lem, count_in, outs_in  its mark, the number of its edges, their events
---   edges-step, events-step     the edges from edge j on, one after the other; events_at_lem, the event of one of them
---   look_turn                   a search among them
+--   edges-step, events-step         the edges from edge j on, one after the other; events_at_lem, the event of one of them
+--   look_turn                       a search among them
 --   first_in_lem, lead_delta        the first edge of each state; where an event leads by it is where it leads in the book
 use mathlib.Core.Path.{◌≡◌, refl, sym, ap, ◌∙◌}
 use mathlib.Core.Option.{Option, none, some}

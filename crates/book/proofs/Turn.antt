@@ -1,9 +1,9 @@
 -- One turn of each search over records, on plain values. Each loop keeps one record: the search from the start is the
 -- search from here. A turn finds what the search finds, or keeps the record for the next turn. Assumes nothing.
---   first_fault-step, own_faults-step, first_edge-suc   one step of each definition
---   count_turn          the sum of the counts
---   StateLoop, EdgeLoop, OwnLoop   the loops over states, over one state's edges, and over all states' edges
---   entered_start, entered-put, entered_skip   the array of the states with an edge into them
+--   first_fault-step, own_faults-step, first_edge-suc  one step of each definition
+--   count_turn                                         the sum of the counts
+--   StateLoop, EdgeLoop, OwnLoop                       the loops over states, over one state's edges, and over all states' edges
+--   entered_start, entered-put, entered_skip           the array of the states with an edge into them
 use mathlib.Core.Path.{◌≡◌, refl, sym, ap, ◌∙◌}
 use mathlib.Core.Bool.{Bool, true, false, not, ◌||◌}
 use mathlib.Core.Option.{Option, none, some}

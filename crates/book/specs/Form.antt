@@ -1,10 +1,10 @@
 -- A book in bytes. Document 01, "The book".
---   most_states, most_edges, most_bytes   S is 1 to 512, E is 0 to 2,048, the file at most 65,536 bytes
+--   most_states, most_edges, most_bytes  S is 1 to 512, E is 0 to 2,048, the file at most 65,536 bytes
 --   trailer_size, size_of S E            12 bytes; the distance of a right trailer, 4S + 4E + 12
---   SB, letters_right                   the letters; whether a trailer ends with them
+--   SB, letters_right                    the letters; whether a trailer ends with them
 --   trailer_at, trailer_of               where the trailer starts, and its numbers
 --   table_at, table_of                   where the state table starts; what stands from there on
---   state_record_at, edge_record_at        state s and edge j of a table; a byte past the end reads as 0
+--   state_record_at, edge_record_at      state s and edge j of a table; a byte past the end reads as 0
 --   state_place, edge_place              their offsets from the state table
 use Rattle.std.specs.Prelude.{ℕ, ◌+◌, ◌*◌, ◌-◌, List, [], ◌∷◌, Bool, ◌&&◌, length, get_or, drop, eqb}
 use Rattle.wire.specs.Little.{le16_at, le32_at}

@@ -1,13 +1,13 @@
 -- The book that bytes hold, as the states and edges of `meaning`. Document 01, "The book".
---   list_from f n k      f k, f (k + 1), .., n of them
---   first_edge t s       the number of the edges of all lower states
---   table_book t S       the book of a state table; edges stand in state order, so a state's edges follow those of all
+--   list_from f n k     f k, f (k + 1), .., n of them
+--   first_edge t s      the number of the edges of all lower states
+--   table_book t S      the book of a state table; edges stand in state order, so a state's edges follow those of all
 --                       lower states
---   book_of xs           THE BOOK of the bytes xs
---   edges_below, firsts_of   for each of 512 states the number of its first edge, in 16 bits
+--   book_of xs          THE BOOK of the bytes xs
+--   edges_below, firsts_of  for each of 512 states the number of its first edge, in 16 bits
 --   RiseFrom, Rising    what a search by halving asks: the events rise
---   led_to               what a search found, as the model has it
---   lead_of              where an event leads from a state, whose first edge is listed
+--   led_to              what a search found, as the model has it
+--   lead_of             where an event leads from a state, whose first edge is listed
 use Rattle.std.specs.Prelude.{ℕ, zero, suc, ◌+◌, ◌%◌, ◌≤◌, ◌<◌, List, [], ◌∷◌, length, get_or, ltb}
 use Rattle.std.proofs.Math.Option.{Option, none, some}
 use Rattle.meaning.specs.Choice.{when}

@@ -1,9 +1,9 @@
 -- What the readers answer, and the functions below the check, which go by a rule's number.
 --   StateIs, EdgeIs            a record, with its numbers small
 --   placed                     the place of a fault that a search found, if any
---   state_breaks, edge_breaks    does a record break the rule of that number
---   state_broken, edge_broken    the same of a table's records; own_broken, of an edge as one of its state
---   own_fault                   the first of one state's edges at fault
+--   state_breaks, edge_breaks  does a record break the rule of that number
+--   state_broken, edge_broken  the same of a table's records; own_broken, of an edge as one of its state
+--   own_fault                  the first of one state's edges at fault
 --   HoldsStates, HoldsEdges    the records of n states, of the edges below edge n, are among the bytes
 --   StatesRight, OwnRight      no rule is broken by the states; by one state's edges, and the array has these too
 --   EnteredAre                 an array that has 1 at each state with an edge into it

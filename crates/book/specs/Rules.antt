@@ -1,13 +1,13 @@
 -- Refusals 1 to 13 of a book, in their order. Document 01, "Refusal numbers".
 --   first_fault, or_else  the place of the first of n records from record k on that is at fault; a search, or else another
---   state_fault          the first state at fault
---   edge_fault           the first edge at fault, lower states first, each edge judged as an edge of its state
---   spare_right          what the zero byte of a record must be
---   not_above, astray, unentered, dead_end   the faults 9, 10, 12 and 13 of one record
---   entered             does some edge lead into a state
---   trailer_rules, table_rules   THE TABLE: number, when, place
---   check_book xs        what the check of the bytes xs answers
---   told                the numbers of each case of an answer
+--   state_fault           the first state at fault
+--   edge_fault            the first edge at fault, lower states first, each edge judged as an edge of its state
+--   spare_right           what the zero byte of a record must be
+--   not_above, astray, unentered, dead_end  the faults 9, 10, 12 and 13 of one record
+--   entered               does some edge lead into a state
+--   trailer_rules, table_rules  THE TABLE: number, when, place
+--   check_book xs         what the check of the bytes xs answers
+--   told                  the numbers of each case of an answer
 use Rattle.std.specs.Prelude.{ℕ, zero, suc, ◌+◌, ◌-◌, List, [], ◌∷◌, ◌++◌, Bool, false, not, ◌&&◌, ◌||◌, length, eqb, leb, ltb}
 use Rattle.std.proofs.Math.Option.{Option, none, some}
 use Rattle.meaning.specs.Choice.{when}

@@ -3,7 +3,7 @@
 --   compiled_accepted           the image of a book that compiles is accepted, with the places and edges of the answer
 --   made_alike                  its questions are those of `image_of`; made_walk, made_run: and so are walks and runs
 --   compiled-length             its length is the answer's, and at most 30,732
---   compiled_memory, compiled_start   the lent memory then starts with the image, and is as it was past its end
+--   compiled_memory, compiled_start  the lent memory then starts with the image, and is as it was past its end
 --   refused_14, refused_15      an accepted book is refused for size exactly where more than 1,024 chains are reachable, or
 --                               their places need more than 4,096 edges
 --   room_enough                 with 30,732 bytes of room it is never refused 16

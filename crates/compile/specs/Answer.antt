@@ -1,10 +1,10 @@
 -- WHAT A COMPILE ANSWERS, and the lent memory afterwards. Document 01, "Refusal numbers" 14 to 16, after those of the
 -- book.
---   chains_of B              the places of the book: its chains, numbered; none where there are more than 1,024
---   made_of B room P         14, 15, 16, or image length, places and edges
---   image_of_book B           the bytes of the book's image; none where there are too many places
---   compile_answer xs room   the answer for the book xs with so many bytes of room
---   compile_memory xs out    the lent memory afterwards: the image from its start, or as it was
+--   chains_of B             the places of the book: its chains, numbered; none where there are more than 1,024
+--   made_of B room P        14, 15, 16, or image length, places and edges
+--   image_of_book B         the bytes of the book's image; none where there are too many places
+--   compile_answer xs room  the answer for the book xs with so many bytes of room
+--   compile_memory xs out   the lent memory afterwards: the image from its start, or as it was
 --   told                    the numbers of each answer
 use Rattle.std.proofs.Math.Option.{Option, none, some}
 use Rattle.std.specs.Prelude.{List, [], ◌∷◌, ℕ, length, ltb}

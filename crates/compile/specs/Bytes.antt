@@ -1,11 +1,11 @@
 -- A book's image in bytes, in any form. Document 01, "The image". L numbers the chains of the book B.
 --   reported mark c     the chain from the first of its states that is marked; empty where none is
---   place_record, edge_record    a record of these numbers, its spare byte zero
---   place_of, edges_of    the record of place p; those of its edges, exactly the edges of its head
---   places_below, edges_below    the records of the places below p, and of their edges
---   edge_count B L       the number of all edges
+--   place_record, edge_record  a record of these numbers, its spare byte zero
+--   place_of, edges_of  the record of place p; those of its edges, exactly the edges of its head
+--   places_below, edges_below  the records of the places below p, and of their edges
+--   edge_count B L      the number of all edges
 --   spread g rs         the bytes of records, one after the other
---   image_bytes f B L    THE IMAGE: place records, edge records, trailer
+--   image_bytes f B L   THE IMAGE: place records, edge records, trailer
 use Rattle.std.specs.Prelude.{List, [], ◌∷◌, ◌++◌, map, ℕ, zero, suc, length, get_or, eqb}
 use Rattle.meaning.specs.Choice.{when}
 use Rattle.meaning.specs.Text.{Marks}

@@ -3,12 +3,12 @@
 --   Small               every target is below 512
 --   Ready               the state table of an accepted book, with the number of each state's first edge
 --   Stands              p is one of the n places that the arrays hold for that book
---   rest_after δ c a     what the event makes of the chain without its head; of the empty chain nothing
+--   rest_after δ c a    what the event makes of the chain without its head; of the empty chain nothing
 --   IsPlace             a place, the one of a chain if the chain has one
 --   Seen, IsSeen        the states of a chain are marked; a place, and the states of its chain
 --   RestAt              the same of what an event makes of the rest of a place's chain
 --   HasPlace, RestMet   a chain has a place; what an event makes of the rest of a place's chain has one
---   led_number           where an event leads, as one number
+--   led_number          where an event leads, as one number
 --   Walked, LeadAt      what a walk down the fallbacks asks; the first place below that an event leads on from
 --   Neither             edges with neither of two events
 --   RestAlike           two events make the same of the rest of a place's chain

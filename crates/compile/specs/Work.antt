@@ -2,8 +2,8 @@
 -- for each place the earlier place of the same head.
 --   Rows, rows          head, level and fallback of each place
 --   Down                each entry but the first is below its index
---   chain_of w p         the chain of the place p, by its fallbacks
---   list_of w n          the chains of the places below n
+--   chain_of w p        the chain of the place p, by its fallbacks
+--   list_of w n         the chains of the places below n
 --   Latest              the last place with a head
 --   Held                the rows are those of n places
 --   Fit                 and the places of each head are linked, newest first

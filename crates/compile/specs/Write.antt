@@ -4,7 +4,7 @@
 --   LinkIs B w p r      r is the link of the place p
 --   Makes B d d' a      answer and memory of a compile of the book B
 --   Wrote d at bs d' r  the bytes bs are written from at on, and r is where they end
---   edge_end B w n p     where the edge records of the places below p end
+--   edge_end B w n p    where the edge records of the places below p end
 --   Known B w n p out   the image has the first edges of all places, and the targets of the edges of those below p
 --   Starts B w n row    for each event the place that it leads to from place 0
 --   EdgeNumber          the number of the edge with an event among some edges of the book

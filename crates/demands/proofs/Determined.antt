@@ -2,7 +2,7 @@
 --   fixed               it is equated with a definition
 --   decided             what it says is, and what an answer says keeps its cases apart
 --   decided_both        the same, and the memory is equated with a definition
---   byte, number, state_record, edge_record_lem, wrote     the contract is a record that does so, its answer's bounds besides
+--   byte, number, state_record, edge_record_lem, wrote  the contract is a record that does so, its answer's bounds besides
 -- Assumes nothing.
 use mathlib.Core.Path.{◌≡◌, sym, ◌∙◌}
 use mathlib.Core.List.{List}

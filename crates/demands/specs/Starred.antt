@@ -1,9 +1,9 @@
 -- THE STARRED CASES of document 01, "Books to try", as one table: `Starred` says that every line of it holds.
 --   laid B                   the bytes of a book with no note: state records, edge records, trailer
---   book_a .. book_d, one      the books to try, in bytes
+--   book_a .. book_d, one    the books to try, in bytes
 --   lent, buffer n           memory lent to a compile; a record buffer with room for n records
---   image_of xs               what a compile of the book xs writes into lent memory
---   list_of xs log            what a run over that image, read from the start with base 0, writes into a buffer
+--   image_of xs              what a compile of the book xs writes into lent memory
+--   list_of xs log           what a run over that image, read from the start with base 0, writes into a buffer
 --   Line                     a line of the table: what is called, and the figures that the paper gives
 --   Holds                    what a line says, over the definitions that the contracts name
 --   table, Starred           THE TABLE, and that each of its lines holds

@@ -1,7 +1,7 @@
 -- The words in which the demands are put, over the definitions that the contracts name.
 --   Accepted xs              check_book accepts the book xs
 --   Compiled xs ys           a compile of the book xs wrote the image ys into lent memory
---   chain_named ys p          the chain that place p of the image ys and its fallbacks name: their heads with their levels
+--   chain_named ys p         the chain that place p of the image ys and its fallbacks name: their heads with their levels
 --   Ran ys base log n rs     a run over the image ys, read from the start, took n events and wrote the records rs
 use Rattle.std.specs.Prelude.{◌≡◌, List, ℕ, ◌*◌, length, take}
 use Rattle.wire.specs.Record.{record_size}

@@ -1,7 +1,7 @@
 -- An image that the check accepts: every record of it is right, and its questions obey what the walk needs.
 --   Facts, facts        an accepted image by place and edge: limits, size, records, edges in the table, events rising
---   levels, accepted_levels     its questions obey `Levels`
---   fallback_below, events_small    a fallback is a place; an event is a byte
+--   levels, accepted_levels  its questions obey `Levels`
+--   fallback_below, events_small  a fallback is a place; an event is a byte
 -- Assumes nothing.
 use mathlib.Core.Path.{◌≡◌, refl, sym, ap, subst}
 use mathlib.Core.Option.{Option, none, some}

@@ -1,9 +1,9 @@
 -- What is asked of any bytes with a place count, on plain values.
---   place_refused, place_known      20 for a place not below the count; the answer for any other
+--   place_refused, place_known  20 for a place not below the count; the answer for any other
 --   sought_is           the number of the edge found, or of none
---   told-edge, told_no_edge, told-walk      an edge, none, and one event, as numbers
+--   told-edge, told_no_edge, told-walk  an edge, none, and one event, as numbers
 --   Trying              the walk of one event with so many fallbacks left to try
---   try_start, try_fail, try_edge, try_none     the turns of its loop, and its ends
+--   try_start, try_fail, try_edge, try_none  the turns of its loop, and its ends
 -- Assumes nothing.
 use mathlib.Core.Path.{◌≡◌, refl, sym, ap, ◌∙◌}
 use mathlib.Core.Logic.{◌≢◌}

@@ -1,7 +1,7 @@
 -- A call that checks the image first: what is refused, and what is asked of an accepted image.
 --   judged_refused, judged_accepted     the rules refuse, or let pass, whatever is judged after them
 --   first_refused, first_accepted       the same of an image's rules
---   held                an accepted image, as the private functions require it
+--   held                                an accepted image, as the private functions require it
 -- Assumes nothing.
 use mathlib.Core.Path.{◌≡◌, refl, sym, ap, ◌∙◌}
 use mathlib.Core.List.{List, [], ◌∷◌}

@@ -1,6 +1,6 @@
 -- Laws of every accepted image: what the walk and the run over it obey. The mathematics is `meaning`'s; here it
 -- meets the check.
---   accepted_counts, accepted_heads, accepted_edges     its counts, heads and edges
+--   accepted_counts, accepted_heads, accepted_edges  its counts, heads and edges
 --   accepted_steps      failure steps plus final level is at most starting level plus events taken
 --   accepted_fewer      from place 0, with one event or more, at most one step fewer than the events
 --   accepted_parts      a run in parts is the run of the whole

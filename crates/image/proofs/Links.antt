@@ -1,11 +1,11 @@
 -- The links of an accepted image: each leads to the nearest marked place on the fallback chain, so that the records
 -- of a place by its links are those by its fallbacks.
---   nearest, accepted_links     the nearest marked place on the fallbacks; a link is that
+--   nearest, accepted_links  the nearest marked place on the fallbacks; a link is that
 --   link_low, next_low  a link is not above its place; the next link after a place that reports is below it
 --   link_marked         the place a link leads to is marked
 --   link_records        the records of a place are those of its link
 --   linked_records      the records of a linked place: its own, then those of the next link
---   link_count, linked_count    how many there are
+--   link_count, linked_count  how many there are
 --   records_count       the same, whatever the end
 -- Assumes nothing.
 use mathlib.Core.Path.{◌≡◌, refl, sym, ap, ◌∙◌}

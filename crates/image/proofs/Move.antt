@@ -2,7 +2,7 @@
 --   found_is            what a search of a place's edges answers
 --   Moving              the invariant: the walk from place p with n failure steps behind it
 --   idle_next           an event that stays at place 0
---   move_start, move_fail, move_edge, move_root     the turns of the loop, and its ends
+--   move_start, move_fail, move_edge, move_root  the turns of the loop, and its ends
 -- Assumes nothing.
 use mathlib.Core.Path.{◌≡◌, refl, sym, ap, ◌∙◌}
 use mathlib.Core.Logic.{◌≢◌}

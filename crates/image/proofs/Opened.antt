@@ -1,7 +1,7 @@
 -- The open image: its counts are those of the check, and its answers are the image's questions. A refused image has
 -- no places, and answers 20 to everything.
 --   edges_opened        the edge count is the check's
---   opened_refused, opened_accepted     no places exactly where the image is refused
+--   opened_refused, opened_accepted  no places exactly where the image is refused
 --   opened-asked        of an accepted image's place: fallback, level, mark, edge and the next walk
 --   opened_nothing      of a refused image: 20
 -- Assumes nothing.

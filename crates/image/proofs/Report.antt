@@ -1,7 +1,7 @@
 -- One turn of the loops that count and write the records of a place by its links, on plain values.
---   Counting, Writing   the invariants: what is left from a link on
+--   Counting, Writing           the invariants: what is left from a link on
 --   count_start, write_start    before the first link
---   count_turn, write_turn, next_less       one place that reports, and the next link is lower
+--   count_turn, write_turn, next_less  one place that reports, and the next link is lower
 --   count_end, write_end        after the last
 --   write_room, few_reports     room for what is left; fewer records than places
 -- Assumes nothing.

@@ -1,7 +1,7 @@
 -- What a trailer and a record that are right obey.
 --   TrailerIn, trailer_in       the counts within the form's limits, and the length
 --   PlaceIn, place_in           place 0, and any other
---   EdgeIn, edge_in_lem             an edge record
+--   EdgeIn, edge_in_lem         an edge record
 -- Assumes nothing.
 use mathlib.Core.Path.{◌≡◌}
 use mathlib.Core.Logic.{◌≢◌}

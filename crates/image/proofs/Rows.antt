@@ -1,9 +1,9 @@
 -- The table of every step: its classes, its rows, what an entry says.
---   Classing, class_start, class_known, class_new       the classes, one more edge
---   copy_start, copy_turn               a row copied, one more entry
---   own_start, own_turn                 a place's own edges, from the last to the first
+--   Classing, class_start, class_known, class_new  the classes, one more edge
+--   copy_start, copy_turn  a row copied, one more entry
+--   own_start, own_turn  a place's own edges, from the last to the first
 --   row_in              a row ends before the next one starts
---   RowsBelow, rows-zero, row_copied, rows_more, rows_done      the row of place 0, one more row, all of them
+--   RowsBelow, rows-zero, row_copied, rows_more, rows_done  the row of place 0, one more row, all of them
 --   looked, entry_in    what an entry says, and that it stands in the table
 --   few_entries         the product of the two counts is small
 -- Assumes nothing.

@@ -1,5 +1,5 @@
 -- The scans of the check, one record at a time.
---   places_fault-step, events_fault-step, edges_fault-step     one step of each scan, and its end
+--   places_fault-step, events_fault-step, edges_fault-step  one step of each scan, and its end
 --   places-passed       a scan of places that finds nothing: the place is right, and nothing is found after it
 --   places_room         and its edges stand among the t
 -- Assumes nothing.

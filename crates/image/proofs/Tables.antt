@@ -1,5 +1,5 @@
 -- The tables of a run: one more entry.
---   Filling, root_start, root_turn, root_done   place 0's table, from its last edge to its first
+--   Filling, root_start, root_turn, root_done  place 0's table, from its last edge to its first
 --   led_step            where an event leads, with one edge more in front
 --   packed_more         the packed table, from place 0 on
 -- Assumes nothing.

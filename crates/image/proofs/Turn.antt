@@ -1,7 +1,7 @@
 -- One turn of the run over an accepted image, on plain values.
 --   carry               what a run comes to is the same after some of its events
 --   ready_then          what a walk asks for, where it has come to
---   carried_none, carried_then      no turn; one turn after another
+--   carried_none, carried_then  no turn; one turn after another
 --   run_start           before the first event
 --   run-stays, run_turn an event that stays at place 0; an event whose records fit
 --   run_full, run_done  no room for the next event's records; the run is over

@@ -1,5 +1,5 @@
 -- The check, row by row: what each row refuses, and what an accepted image passes.
---   check_17, check_18, check_19, check_fine    the answer, from what the rows find
+--   check_17, check_18, check_19, check_fine  the answer, from what the rows find
 --   Passed, check_passed        an accepted image: every row finds nothing, and the counts are the trailer's
 --   sized                       a right trailer's image is as long as its counts say
 -- Assumes nothing.

@@ -1,8 +1,8 @@
 -- The bytes of records, one after the other.
 --   sets_eight          eight bytes stored one by one
---   record_bytes_lem        the eight bytes of a number are a record's
---   length-list_bytes    eight bytes a record
---   list_bytes_cons, list_bytes-append    a record, a list, and more after it
+--   record_bytes_lem    the eight bytes of a number are a record's
+--   length-list_bytes   eight bytes a record
+--   list_bytes_cons, list_bytes-append  a record, a list, and more after it
 --   sets-past           what stands past the bytes written is as it was
 -- Assumes nothing.
 use mathlib.Core.Path.{◌≡◌, refl, ap, ◌∙◌}

@@ -1,9 +1,9 @@
 -- The numbers of each answer, in the order in which document 01 names them.
---   told_checked         places and edges
---   told_asked           the number asked for
---   told_edged           whether there is an edge, and its target
---   told_walked          place, level, failure steps
---   told_ran             events taken, place, records, failure steps
+--   told_checked        places and edges
+--   told_asked          the number asked for
+--   told_edged          whether there is an edge, and its target
+--   told_walked         place, level, failure steps
+--   told_ran            events taken, place, records, failure steps
 use Rattle.meaning.specs.Answer.{Answer, accepted, refused}
 use Rattle.image.specs.declared.Checked.{Checked}
 use Rattle.image.specs.declared.Checked.TheVariants.{Fine, Refused}

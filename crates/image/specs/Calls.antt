@@ -1,10 +1,10 @@
 -- What each call answers. Document 01, "Refusal numbers", "The image", "Runs and lists".
 --   place_rules q p      20: a place that an image with q places does not have
 --   checked_first xs f   refused by 17 to 19, otherwise what f says of the image's place count
---   places_in, edges_in   the counts that an image is opened with
---   fallback_in, level_in, mark_in, edge_in     the questions, of an image with q places
+--   places_in, edges_in  the counts that an image is opened with
+--   fallback_in, level_in, mark_in, edge_in  the questions, of an image with q places
 --   next_in              one event of a walk: place, level, failure steps
---   run_rules, run_answer, run_memory          a run: its refusals, its answer, the record buffer afterwards
+--   run_rules, run_answer, run_memory  a run: its refusals, its answer, the record buffer afterwards
 --   list_bytes           the bytes of a list of records
 use Rattle.std.proofs.Math.Option.{Option, none, some}
 use Rattle.std.specs.Prelude.{List, [], ◌∷◌, ◌++◌, ℕ, ◌+◌, ◌/◌, length, leb, ltb}

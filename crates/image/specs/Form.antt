@@ -1,9 +1,9 @@
 -- How an image lies in bytes. Document 01, "The image".
---   PlaceRecord, EdgeRecord, Trailer    the numbers of each record
+--   PlaceRecord, EdgeRecord, Trailer  the numbers of each record
 --   Form                a form: its number and limits, the sizes of its records, the numbers and the bytes of each
---   form1, form_of       the form of document 01; the form of an image
---   size_of f q t        the length of an image with q places and t edges, which is also its distance
---   place_at, edge_at, trailer_of          the records of an image by number, and its trailer
+--   form1, form_of      the form of document 01; the form of an image
+--   size_of f q t       the length of an image with q places and t edges, which is also its distance
+--   place_at, edge_at, trailer_of  the records of an image by number, and its trailer
 --   letters, has_letters the last two bytes, SM in every form
 use Rattle.std.specs.Prelude.{ℕ, ◌+◌, ◌*◌, ◌-◌, List, [], ◌∷◌, ◌++◌, Bool, ◌&&◌, length, get_or, eqb}
 use Rattle.wire.specs.Little.{le16_at, le32_at, bytes16, bytes32}

@@ -1,17 +1,17 @@
 -- What the private functions require and answer, so that they read without tests.
---   HoldsPlace, HoldsEdge, HoldsEdges   the record of a place, of an edge, of n edges from j on, is among the bytes
+--   HoldsPlace, HoldsEdge, HoldsEdges  the record of a place, of an edge, of n edges from j on, is among the bytes
 --   Sized               an image as long as its counts say, within the limits
---   below_at, reached_at, places_fault_at, events_fault_at, edges_fault_at     records and scans of form 1
+--   below_at, reached_at, places_fault_at, events_fault_at, edges_fault_at  records and scans of form 1
 --   FaultIs             the number of a record at fault, at most m, or none
---   edges_for            the edge count of an image, where its place count is known
+--   edges_for           the edge count of an image, where its place count is known
 --   Accepted            an image that the check accepts, with q places
---   Rising, edge_or, FoundIs             events that rise; the number of the edge found, or one that no edge has
+--   Rising, edge_or, FoundIs  events that rise; the number of the edge found, or one that no edge has
 --   IsRoot, Idle        a table of where each event leads from place 0; the walk stays there
 --   PackedAt, IsPacked  a table of what is written of a place that reports, and of the next one
 --   MovedIs             one event of the walk
---   ran_over, reports    the run; how many records a place has
---   left_at              what is left of a run where it stands
---   told_at, memory_at    what it answers from there, and the buffer that it leaves
+--   ran_over, reports   the run; how many records a place has
+--   left_at             what is left of a run where it stands
+--   told_at, memory_at  what it answers from there, and the buffer that it leaves
 --   Stands, Ready       where a run can stand; what a walk on from there asks for
 --   Carried, CarriedTo  from one stand to the next, what the run comes to is the same
 use Rattle.std.specs.Prelude.{◌≡◌, List, true, false, ◌≢◌, ℕ, ◌+◌, ◌*◌, ◌-◌, ◌/◌, ◌%◌, ◌≤◌, ◌<◌, length, get_or, drop, eqb}

@@ -1,7 +1,7 @@
 -- What is asked of an image, from its records.
---   seek E a left j     the number of the first of left edges from j on with the event a
+--   seek E a left j      the number of the first of left edges from j on with the event a
 --   questions_at f xs q  the questions of an image with q places in the form f
---   questions xs        the questions of the image xs, with the count of its trailer
+--   questions xs         the questions of the image xs, with the count of its trailer
 use Rattle.std.proofs.Math.Option.{Option, none, some}
 use Rattle.std.specs.Prelude.{List, ℕ, zero, suc, ◌+◌, eqb}
 use Rattle.meaning.specs.Choice.{when}

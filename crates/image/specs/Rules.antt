@@ -1,13 +1,13 @@
 -- Refusals 17, 18 and 19 of an image. Document 01, "The image": the trailer, then every place record, then every
 -- edge record. The lowest number wins, and within a number the first record.
---   trailer_right        17: trailer and length
---   place_right p sum x b         18: the record x of place p, after places with sum edges in all; b is the record of its
+--   trailer_right       17: trailer and length
+--   place_right p sum x b  18: the record x of place p, after places with sum edges in all; b is the record of its
 --                       fallback
---   places_fault         the first place record at fault, past the last where the counts do not add up
---   edge_right q level floor e reached    19: the edge record e of a place with that level, its event not below floor, its
+--   places_fault        the first place record at fault, past the last where the counts do not add up
+--   edge_right q level floor e reached  19: the edge record e of a place with that level, its event not below floor, its
 --                       target's level reached
---   edges_fault          the first edge record at fault
---   image_rules, check_image       the refusals in their order; what a check answers: places and edges, or refused
+--   edges_fault         the first edge record at fault
+--   image_rules, check_image  the refusals in their order; what a check answers: places and edges, or refused
 use Rattle.std.specs.Prelude.{Bool, not, ◌&&◌, List, [], ◌∷◌, ℕ, zero, suc, ◌+◌, ◌*◌, length, eqb, leb, ltb}
 use Rattle.std.proofs.Math.Option.{Option, none, some}
 use Rattle.meaning.specs.Choice.{when}

@@ -3,7 +3,7 @@
 --   IsSteps     the table for n classes, where a table of 256 gives each event its class
 --   IsClasses   the classes of the events of t edges
 --   Copied      a row copied, with one failure step more in each entry
---   led_by, Owned        a place's own edges written over its row
+--   led_by, Owned  a place's own edges written over its row
 use Rattle.std.specs.Prelude.{◌≡◌, ◌≢◌, List, ℕ, ◌+◌, ◌*◌, ◌/◌, ◌%◌, ◌≤◌, ◌<◌, length, get_or}
 use Rattle.std.proofs.Math.Option.{Option, none, some}
 use Rattle.meaning.specs.Questions.{Image}

@@ -2,7 +2,7 @@
 --   Fine, fine          the image is accepted, with its counts
 --   part_accepted       a part is not refused: it is the run over what is left of the log
 --   Going               what holds before each part: where it stands, and the failure steps so far
---   going_start, going_on, going_end    at the first event; after a part, which took at least one; after the last
+--   going_start, going_on, going_end  at the first event; after a part, which took at least one; after the last
 -- Assumes nothing.
 use mathlib.Core.Path.{◌≡◌, refl, sym, ap, ◌∙◌, subst}
 use mathlib.Core.List.{List, []}

@@ -1,7 +1,7 @@
 -- What a part of the run comes to.
 --   Ran, ran            a run that is not refused is the run over the questions of an accepted image
 --   part_ran            the same of a part
---   part_done, part_refused     what `next_part` answers and leaves
+--   part_done, part_refused  what `next_part` answers and leaves
 -- Assumes nothing.
 use mathlib.Core.Path.{◌≡◌, refl, sym, ap, ◌∙◌}
 use mathlib.Core.List.{List}

@@ -2,7 +2,7 @@
 -- a part's text fits its buffer, so that nothing is cut.
 --   Small               a record's numbers, as bytes hold them
 --   records-small       those of a run
---   part_records_lem        the records that a part reads back are the run's
+--   part_records_lem    the records that a part reads back are the run's
 --   part_fits           23,529 bytes hold the lines of a part; part_text_lem: so they stand whole in the buffer
 --   part_then           the listing of what is left: this part, and then what is left after it
 --   nothing_left        past the last event nothing is left

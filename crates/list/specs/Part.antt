@@ -1,10 +1,10 @@
 -- One part of the listing: the run goes on over what is left of the log, and the lines of its records are written.
---   no_records           the record buffer before a run: room for 1,023 records
---   part_answer          what the run answers: events taken, place, records, failure steps
---   part_records k       the first k records that it leaves in the buffer
---   part_text            their lines; none where the run is refused
+--   no_records          the record buffer before a run: room for 1,023 records
+--   part_answer         what the run answers: events taken, place, records, failure steps
+--   part_records k      the first k records that it leaves in the buffer
+--   part_text           their lines; none where the run is refused
 --   Parted              what a part answers and leaves
---   steps_over           the failure steps of the whole log, from place 0
+--   steps_over          the failure steps of the whole log, from place 0
 use Rattle.std.specs.Prelude.{◌≡◌, List, [], ℕ, ◌*◌, take, drop, replicate}
 use Rattle.meaning.specs.Answer.{Answer, accepted, refused}
 use Rattle.meaning.specs.Records.{Record}

@@ -1,11 +1,11 @@
 -- The text of the listing. Document 01, "Books to try": numbers are decimal, one space stands between fields, and every
 -- line ends with one line feed.
---   header_text              the first line
---   line_text, line_of        the line of a record: end, length, mark, and the group letter of the log's event number end
---   lines_text               the lines of a list of records
---   last_text                the last line: the image's place count and the run's steps
---   listing_text             the whole listing
---   refused_text             what a refusal prints
+--   header_text             the first line
+--   line_text, line_of      the line of a record: end, length, mark, and the group letter of the log's event number end
+--   lines_text              the lines of a list of records
+--   last_text               the last line: the image's place count and the run's steps
+--   listing_text            the whole listing
+--   refused_text            what a refusal prints
 use Rattle.std.specs.Prelude.{List, [], ◌∷◌, ◌++◌, ℕ, get_or}
 use Rattle.meaning.specs.Records.{Record}
 use Rattle.lists.specs.Letters.{letters}

@@ -1,10 +1,10 @@
 -- The part of a log that a record names. Document 01, "Runs and lists": from end minus length up to end, counted from
 -- base.
---   start_of log n l       where the ending of the log's first n bytes that holds l events starts
---   part_told              what an answer says, in the numbers of document 01
---   part_rules             what is refused, in order
---   part_answer            offset and length of the part in the log, or the refusal
---   part_of                the part itself; a refusal gives an empty one
+--   start_of log n l      where the ending of the log's first n bytes that holds l events starts
+--   part_told             what an answer says, in the numbers of document 01
+--   part_rules            what is refused, in order
+--   part_answer           offset and length of the part in the log, or the refusal
+--   part_of               the part itself; a refusal gives an empty one
 use Rattle.std.specs.Prelude.{List, [], ◌∷◌, ℕ, ◌+◌, ◌-◌, length, take, drop, eqb, ltb}
 use Rattle.meaning.specs.Answer.{Answer, accepted, refused, Rule, rule, judged}
 use Rattle.lists.specs.declared.Named.{Named}

@@ -1,8 +1,8 @@
 -- The short list. Document 01, "Runs and lists": it keeps a record if it is the first, or if its end differs from the
 -- end just before it.
---   keep before rs        what is kept of the records that follow the end `before`
---   short rs              the short list of a list of records
---   short_of, short_bytes   that of a list in bytes, and its own bytes
+--   keep before rs         what is kept of the records that follow the end `before`
+--   short rs               the short list of a list of records
+--   short_of, short_bytes  that of a list in bytes, and its own bytes
 --   short_told             what an answer says, in the numbers of document 01
 --   short_rules            what is refused, in order
 --   short_answer           the number of records kept, or the refusal

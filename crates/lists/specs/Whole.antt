@@ -1,10 +1,10 @@
 -- Records in bytes, for every list of whole records. Document 01, "Runs and lists".
---   record_at xs at        the eight bytes of the record that starts at a place
---   records_from n xs at   n records, one after the other
---   records_of xs          all whole records of a list
---   end_of r               the end of a record's bytes
+--   record_at xs at       the eight bytes of the record that starts at a place
+--   records_from n xs at  n records, one after the other
+--   records_of xs         all whole records of a list
+--   end_of r              the end of a record's bytes
 --   joined rs             the bytes of a list of records
---   record_of, decoded     the record that eight bytes hold; the records that a list holds
+--   record_of, decoded    the record that eight bytes hold; the records that a list holds
 use Rattle.std.specs.Prelude.{ℕ, zero, suc, ◌+◌, ◌/◌, List, [], ◌∷◌, ◌++◌, map, length, take, drop, get_or}
 use Rattle.wire.specs.Little.{le16_at, le32_at}
 use Rattle.wire.specs.Record.{record_size}

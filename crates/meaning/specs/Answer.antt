@@ -4,7 +4,7 @@
 --                       by number and place
 --   Rule                a number, and the place of the first fault, if there is one
 --   rule n b p          refused n at p where the test b holds
---   rule_at n o          refused n at the place o, where there is one
+--   rule_at n o         refused n at the place o, where there is one
 --   judged rs x         what the first broken rule refuses; x where none is broken
 --   leaving x out bs    the lent memory afterwards: a refusal changes nothing, a success writes bs from the start on and leaves
 --                       what is past them

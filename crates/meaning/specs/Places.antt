@@ -1,5 +1,5 @@
 -- The places: the reachable chains, numbered breadth first. Document 01, "Chains and places".
---   same_chain, met      equal chains, states and reaches both; was a chain met before
+--   same_chain, met     equal chains, states and reaches both; was a chain met before
 --   number L c          the place of the chain c in the list L
 --   opened              a place opened: the chains after the events of its head's edges are met, events rising
 --   places δ out N      the chains of all texts in the order in which they are first met; none where there are more than N

@@ -1,9 +1,9 @@
 -- An image as the questions asked of it, whatever its form. Document 01, "The image".
 --   Image               place count; fallback, level and mark of a place; the number of a place's edge; an edge's target
---   edge_of M p a        the target of the place's edge with the event, or none
+--   edge_of M p a       the target of the place's edge with the event, or none
 --   Levels M            what an accepted image's records obey of their levels
 --   named heads M p     the chain that a place and its fallbacks name: their heads with their levels
---   image_of δ out mark L   the image of a book whose chains L numbers: a place has exactly the edges of its head state
+--   image_of δ out mark L  the image of a book whose chains L numbers: a place has exactly the edges of its head state
 use Rattle.std.specs.Prelude.{◌≡◌, ◌≢◌, List, [], ◌∷◌, ◌++◌, map, ℕ, zero, suc, ◌+◌, ◌≤◌, ◌<◌, length, get_or, eqb}
 use Rattle.std.proofs.Math.Option.{Option, none, some}
 use Rattle.meaning.specs.Choice.{when, then}

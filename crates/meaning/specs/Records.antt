@@ -1,10 +1,10 @@
 -- The records of a run, and where it stops for room. Document 01, "Runs and lists".
 --   Record, recorded    end, length and mark
---   records_at M e p     the records of an event that leads to the place p: one for every place on the chain with a marked
+--   records_at M e p    the records of an event that leads to the place p: one for every place on the chain with a marked
 --                       head, in chain order
 --   Outcome             what a run comes to: events taken, place, records, failure steps
 --   hit, marked         the record of a live state; the marked states of a chain
---   ending_at e rs       the records of a list with the end e
+--   ending_at e rs      the records of a list with the end e
 --   run M room e p log  the run from the place p after e events, with room for so many records
 use Rattle.std.specs.Prelude.{List, [], ◌∷◌, ◌++◌, ℕ, zero, suc, ◌+◌, ◌-◌, length, eqb, leb}
 use Rattle.meaning.specs.Choice.{when}

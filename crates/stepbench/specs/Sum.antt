@@ -1,7 +1,7 @@
 -- The answers of single steps, added up.
 --   WalkIs              a walk of the numbers of an answer, zeros where it is refused
 --   summed xs q p s t   the sum s, and those of the events t from place p on, in 32 bits
---   summed_first xs t    from place 0 of an accepted image; 0 for any other
+--   summed_first xs t   from place 0 of an accepted image; 0 for any other
 use Rattle.std.specs.Prelude.{◌≡◌, List, [], ◌∷◌, ℕ, ◌+◌, ◌%◌}
 use Rattle.meaning.specs.Answer.{Answer, accepted, refused}
 use Rattle.image.specs.Calls.{next_in}

@@ -1,7 +1,7 @@
 -- Little-endian numbers in a list of bytes. Document 01, "The book": numbers are little-endian.
---   le16_at, le32_at      the number of two or four bytes that starts at a place; a byte past the end reads as 0
+--   le16_at, le32_at    the number of two or four bytes that starts at a place; a byte past the end reads as 0
 --   bytes16, bytes32    a number in two or four bytes, the lowest first
---   put16_at, put32_at    the list after a number is written at a place; past the end nothing is
+--   put16_at, put32_at  the list after a number is written at a place; past the end nothing is
 --   ByteIs, NumberIs    what a reader answers: the number, and that it is small
 use Rattle.std.specs.Prelude.{ℕ, ◌+◌, ◌*◌, ◌/◌, ◌%◌, ◌<◌, List, [], ◌∷◌, ◌++◌, ◌≡◌, get_or, set}
 

@@ -1,7 +1,7 @@
 -- A record of a run in bytes. Document 01, "Runs and lists".
---   record_size          8 bytes a record
---   spare_byte           the last byte of a record: zero
---   record_bytes e n m   end in four bytes, length in two, mark, the spare byte
+--   record_size         8 bytes a record
+--   spare_byte          the last byte of a record: zero
+--   record_bytes e n m  end in four bytes, length in two, mark, the spare byte
 use Rattle.std.specs.Prelude.{ℕ, List, [], ◌∷◌, ◌++◌}
 use Rattle.wire.specs.Little.{bytes16, bytes32}
 

@@ -6,8 +6,7 @@ use Rattle.book.proofs.halve.Goals as goal
 pub returns-then-event-gt255 : goal.returns-then-event-gt255
 returns-then-event-gt255 c =
     let a = c.args in
-    let known = c.shared_slice_known-1 in
-    look_above a.table.now a.states a.event a.count a.first (λ i. (known.given i).fits) c.if-event-gt255.true
+    look_above a.table.now a.states a.event a.count a.first (λ i. (c.type_inv.table i).fits) c.if-event-gt255.true
 
 pub overflow_add-event : goal.overflow_add-event
 overflow_add-event c = omega arith
@@ -17,10 +16,9 @@ overflow_add-j c = omega arith
 
 pub loop-left-init : goal.loop-left-init
 loop-left-init c =
-    let known = c.shared_slice_known-1 in
     let a = c.args in
     narrowed_start a.table.now a.states a.event a.first a.count _ _ _ c.requires.2
-    (λ i. (known.given i).fits) (omega arith) c.less-low.ensures c.high.ensures
+    (λ i. (c.type_inv.table i).fits) (omega arith) c.less-low.ensures c.high.ensures
     c.less-left.ensures
 
 pub overflow_add-j-in-loop-left : goal.overflow_add-j-in-loop-left

@@ -1,4 +1,5 @@
 -- The loop has written what is kept before the records that are left. Assumes nothing.
+-- `l.at-2` and the like: the number passed, where a local has its name.
 use Prim.Native.Nat.{◌+◌, ◌*◌, ◌≤◌}
 use mathlib.Core.Path.{◌≡◌}
 use lib.ListN.{length}

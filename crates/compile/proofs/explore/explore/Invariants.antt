@@ -10,5 +10,4 @@ invariant-loop-p l =
     Exploring (table_book l.table l.states) l.p l.edges l.newest l.earlier (rows l.heads l.levels l.fallbacks) l.places
 
 abbrev pub decreases-loop-p : goal.decreases-loop-p
-decreases-loop-p l =
-    1024 - l.p
+decreases-loop-p l = 1024 - l.p

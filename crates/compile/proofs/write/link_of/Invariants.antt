@@ -1,4 +1,5 @@
 -- `link_of` meets its contract: the link is that of the place reached. Assumes nothing.
+-- `l.p-2`: the p passed, as a local has its name.
 use Prim.Native.Nat.{◌<◌}
 use Rattle.book.specs.Model.{table_book}
 use Rattle.compile.specs.Work.{rows}

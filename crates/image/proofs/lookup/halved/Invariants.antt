@@ -1,6 +1,7 @@
 -- `image::lookup::halved` meets its contract. The loop carries that the edges left are searched and rise: a turn of
 -- `Seek`.
 -- Assumes nothing.
+-- `l.j-2` and the like: the number passed, where a local has its name.
 use Rattle.image.specs.Held.{Rising}
 use Rattle.image.specs.Questions.{seek}
 use Rattle.image.specs.Form.{form1, edge_at}

@@ -1,5 +1,6 @@
 -- `image::lookup::linear` meets its contract. The loop carries that the edges left are searched.
 -- Assumes nothing.
+-- `l.j-2` and the like: the number passed, where a local has its name.
 use Rattle.image.specs.Questions.{seek}
 use Rattle.image.specs.Form.{form1, edge_at}
 use mathlib.Core.Path.{◌≡◌}
@@ -8,8 +9,8 @@ use Rattle.image.proofs.lookup.linear.Given as goal
 
 abbrev pub invariant-loop-left : goal.invariant-loop-left
 invariant-loop-left l =
-    (l.j + l.left ≡ l.j-2 + l.left-2) × (seek (edge_at form1 l.image l.places) l.event l.left-2 l.j-2 ≡ seek (edge_at form1 l.image l.places) l.event
-    l.left l.j)
+    let E = edge_at form1 l.image l.places in
+    (l.j + l.left ≡ l.j-2 + l.left-2) × (seek E l.event l.left-2 l.j-2 ≡ seek E l.event l.left l.j)
 
 abbrev pub decreases-loop-left : goal.decreases-loop-left
 decreases-loop-left l = l.left

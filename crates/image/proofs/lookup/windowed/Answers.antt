@@ -23,7 +23,7 @@ returns-then-lo-hi c =
     c.halved.ensures ∙ ap edge_or (sym
     (window E c.args.event c.args.n c.args.j c.requires.3
     (events_small c.args.image.now c.args.places c.args.j _
-    (λ i. (c.shared_slice_known-1.given i).fits)) c.low-lo.result c.high-hi.result
+    (λ i. (c.type_inv.image i).fits)) c.low-lo.result c.high-hi.result
     c.low-lo.ensures c.high-hi.ensures (omega arith)))
 
 pub returns-else-lo-hi : goal.returns-else-lo-hi
@@ -31,5 +31,5 @@ returns-else-lo-hi c =
     let E = edge_at form1 c.args.image.now c.args.places in
     sym (ap edge_or (no_window E c.args.event c.args.n c.args.j c.requires.3
     (events_small c.args.image.now c.args.places c.args.j _
-    (λ i. (c.shared_slice_known-1.given i).fits)) c.low-lo.result c.high-hi.result
+    (λ i. (c.type_inv.image i).fits)) c.low-lo.result c.high-hi.result
     c.low-lo.ensures c.high-hi.ensures c.if-lo-hi.false))

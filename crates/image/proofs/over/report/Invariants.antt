@@ -1,5 +1,6 @@
 -- `image::over::report` meets its contract. The loop carries what is left to write: a turn of `Report`.
 -- Assumes nothing.
+-- `l.k-2`: the k passed, as a local has its name.
 use Rattle.image.proofs.Report.{Writing}
 use Rattle.image.proofs.over.report.Given as goal
 

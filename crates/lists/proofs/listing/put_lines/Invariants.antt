@@ -1,4 +1,5 @@
 -- The loop writes a line and leaves those of the records after it. Assumes nothing.
+-- `l.at-2`: the at passed, as a local has its name.
 use Prim.Native.Nat.{◌+◌, ◌*◌, ◌≤◌}
 use mathlib.Core.Path.{◌≡◌}
 use mathlib.Core.List.{map}

@@ -1,4 +1,5 @@
 -- The loop has written the bytes before i. Assumes nothing.
+-- `l.at-2`: the at passed, as a local has its name.
 use Prim.Native.Nat.{◌≤◌, ◌-◌}
 use lib.ListN.{length, take}
 use Rattle.lists.specs.Wrote.{Wrote}
