@@ -15,7 +15,7 @@
 use mathlib.Core.Path.{◌≡◌, refl, sym, ap, ◌∙◌, subst}
 use mathlib.Core.Logic.{◌≢◌, ⊎_elim}
 use mathlib.Core.Bool.{Bool, true, false, not, ◌&&◌}
-use mathlib.Core.Option.{Option, none, some}
+use Rattle.std.specs.Prelude.{Option, None, Some}
 use mathlib.Core.List.{List, [], ◌∷◌, map}
 use mathlib.Core.List.Memᴰ
 use mathlib.Core.List.{Memᴰ}
@@ -79,13 +79,13 @@ table_right t S E (p7, (p8, (p9, (p10, (p11, (p12, (p13, _))))))) =
     other s n = rw (ne_eqb s 0 n)
 
 -- ---- what leads on and what edges name, of any book
-look_names : (es : List Edge) (a p : ℕ) → look es a ≡ some p → Memᴰ a (map (λ (e : Edge). e.event) es)
+look_names : (es : List Edge) (a p : ℕ) → look es a ≡ Some p → Memᴰ a (map (λ (e : Edge). e.event) es)
 look_names [] a p e = none_some refl e
 look_names (x ∷ es) a p e =
     by_bool (eqb x.event a) (λ b. Memᴰ.head (sym (eqb-true x.event a b)))
     (λ b. Memᴰ.tail (look_names es a p (sym (rw b) ∙ e)))
 
-names_look : (es : List Edge) (a : ℕ) → Memᴰ a (map (λ (e : Edge). e.event) es) → (p : ℕ) × (look es a ≡ some p)
+names_look : (es : List Edge) (a : ℕ) → Memᴰ a (map (λ (e : Edge). e.event) es) → (p : ℕ) × (look es a ≡ Some p)
 names_look [] a m = absurd (Memᴰ.not-nil m)
 names_look (x ∷ es) a m =
     by_bool (eqb x.event a) (λ b. (x.target, rw b))
@@ -94,10 +94,10 @@ names_look (x ∷ es) a m =
     (λ k. let w = names_look es a k in (w.0, rw b w.1)) (Memᴰ.cases_cons m))
 
 module _ (B : Book) (q a : ℕ) where
-  pub delta_names : (p : ℕ) → delta B q a ≡ some p → Memᴰ a (outs B q)
+  pub delta_names : (p : ℕ) → delta B q a ≡ Some p → Memᴰ a (outs B q)
   delta_names p e = look_names (state_at B q).edges a p e
 
-  pub names_delta : Memᴰ a (outs B q) → (p : ℕ) × (delta B q a ≡ some p)
+  pub names_delta : Memᴰ a (outs B q) → (p : ℕ) × (delta B q a ≡ Some p)
   names_delta m = names_look (state_at B q).edges a m
 
 -- ---- the model of a right table
@@ -129,7 +129,7 @@ module _ (t : List ℕ) (S E : ℕ) (R : TableRight t S E) where
 
   -- the edge j, an edge of the state s, is the one that its event leads by
   leads : (s j : ℕ) → s < S → first_edge t s ≤ j → j < first_edge t s + (state_record_at t s).count
-      → delta (table_book t S) s (event j) ≡ some (edge_record_at t S j).target
+      → delta (table_book t S) s (event j) ≡ Some (edge_record_at t S j).target
   leads s j l a b =
       rw (state_in t S s l)
       (look_finds t S (event j) (state_record_at t s).count (first_edge t s) j a b refl
@@ -145,22 +145,22 @@ module _ (t : List ℕ) (S E : ℕ) (R : TableRight t S E) where
       (rises q l _ _ (omega arith) (omega arith) (omega arith)))
       (λ l. let c = count_out t S q l in absurd (let w : ⊥ = omega arith in w))
 
-  table_up : (q a p : ℕ) → delta (table_book t S) q a ≡ some p → (q < p) × (p < S)
+  table_up : (q a p : ℕ) → delta (table_book t S) q a ≡ Some p → (q < p) × (p < S)
   table_up q a p e =
       by_below q S
       (λ l.
       let w = look_some t S a (state_record_at t q).count (first_edge t q) p (sym (rw (state_in t S q l)) ∙ e) in
       subst (λ (m : ℕ). (q < m) × (m < S)) w.4 (R.up q w.0 l w.1 w.2))
-      (λ l. let n : delta (table_book t S) q a ≡ none = rw (state_out t S q l) in none_some n e)
+      (λ l. let n : delta (table_book t S) q a ≡ None = rw (state_out t S q l) in none_some n e)
 
-  table_reached : (s : ℕ) → s < S → s ≢ 0 → (q : ℕ) × (a : ℕ) × (delta (table_book t S) q a ≡ some s)
+  table_reached : (s : ℕ) → s < S → s ≢ 0 → (q : ℕ) × (a : ℕ) × (delta (table_book t S) q a ≡ Some s)
   table_reached s l n =
       let w = entered-edge t S E s (R.into s l n) in
       let z = R.sum in
       let j = w.0 in
       let m = w.1 in
       let o = owner t S j (omega arith) in
-      (o.0, event j, leads o.0 j o.1 o.2 o.3 ∙ ap {B = Option ℕ} some w.2)
+      (o.0, event j, leads o.0 j o.1 o.2 o.3 ∙ ap {B = Option ℕ} Some w.2)
 
   table_ends : (s : ℕ) → s < S → s ≢ 0 → outs (table_book t S) s ≡ [] → marks (table_book t S) s ≢ 0
   table_ends s l n e z =
@@ -230,13 +230,13 @@ module _ (xs : List ℕ) (S E : ℕ) (A : check_book xs ≡ accepted S E 0 0) wh
   pub lead_is : (q a : ℕ) → lead_of (table_of xs) S (firsts_of (book_of xs)) q a ≡ delta (book_of xs) q a
   lead_is q a = rw book_is (lead_delta (table_of xs) S limits.1 sum_small q a)
 
-  pub targets_up : (q a p : ℕ) → delta (book_of xs) q a ≡ some p → (q < p) × (p < S)
+  pub targets_up : (q a p : ℕ) → delta (book_of xs) q a ≡ Some p → (q < p) × (p < S)
   targets_up = rw book_is (table_up (table_of xs) S E table_is)
 
   pub start_unmarked : marks (book_of xs) 0 ≡ 0
   start_unmarked = let r = limits.0 in rw book_is (mark_in_lem (table_of xs) S 0 (omega arith) ∙ table_is.start)
 
-  pub reached : (s : ℕ) → s < S → s ≢ 0 → (q : ℕ) × (a : ℕ) × (delta (book_of xs) q a ≡ some s)
+  pub reached : (s : ℕ) → s < S → s ≢ 0 → (q : ℕ) × (a : ℕ) × (delta (book_of xs) q a ≡ Some s)
   reached = rw book_is (table_reached (table_of xs) S E table_is)
 
   pub ends_marked : (s : ℕ) → s < S → s ≢ 0 → outs (book_of xs) s ≡ [] → marks (book_of xs) s ≢ 0

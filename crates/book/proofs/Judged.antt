@@ -2,33 +2,30 @@
 --   Passed, judged-passed       every rule of a list finds no fault; so it is where the answer is an acceptance
 --   passed-judged               what is judged then is what comes after the list
 --   TrailerRight, trailer_right_lem what rules 1 to 6 leave
---   row_past, row_at ..         one row of the table, passed or refusing
---   Verdict, verdict            from the trailer to the table
+--   trailer_answer ..           from the trailer to the table
 --   table_part                  the part of the bytes that the code takes for the state table
 use mathlib.Core.Path.{◌≡◌, refl, sym, ap, ◌∙◌}
 use mathlib.Core.Bool.{Bool, true, false, not}
-use mathlib.Core.Option.{Option, none, some}
+use Rattle.std.specs.Prelude.{None, Some}
 use mathlib.Core.List.{List, [], ◌∷◌}
 use Prim.Native.Nat.{ℕ, ◌-◌, ◌≤◌}
 use native.Mathlib.Omega.{arith}
 use lib.ListN.{length, take, drop, length-drop}
 use lib.Seq.{take_all}
 use lib.Dec.{eqb, ltb}
-use borrow.Author.Tests.{eqb-true, eqb-false, ltb-false, eq-eqb, ne_eqb}
+use borrow.Author.Tests.{eqb-true, eqb-false, ltb-false}
 use Rattle.meaning.specs.Choice.{when}
-use Rattle.meaning.specs.Answer.{Answer, accepted, refused, Rule, judged, faulty}
+use Rattle.meaning.specs.Answer.{Answer, accepted, refused, Rule, judged}
 use Rattle.book.specs.Form.{most_states, most_edges, most_bytes, trailer_size, size_of}
 use Rattle.book.specs.Form.{SB, letters_right, trailer_of, table_at, table_of}
 use Rattle.book.specs.Rules.{trailer_rules, table_rules, check_book}
-use Rattle.book.specs.Reads.{numbered, placed, HoldsEdges}
-use Rattle.book.specs.declared.Fault.{Fault}
-use Rattle.book.specs.declared.Fault.TheVariants.{At, Nothing}
+use Rattle.book.specs.Reads.{HoldsEdges}
 use Rattle.book.specs.declared.Trailer.{Trailer}
-use Rattle.book.proofs.Cases.{by_option, none_some, refused_accepted, not_false, or_false}
+use Rattle.book.proofs.Cases.{by_option, none_some, not_false, or_false}
 
 abbrev pub Passed : List Rule → Type 0
 Passed [] = Unit {0}
-Passed (r ∷ rs) = (r.fault ≡ none) × Passed rs
+Passed (r ∷ rs) = (r.fault ≡ None) × Passed rs
 
 pub judged-passed : (rs : List Rule) (x : Answer) {a b c d : ℕ} → judged rs x ≡ accepted a b c d
     → Passed rs × (x ≡ accepted a b c d)
@@ -36,12 +33,12 @@ judged-passed [] x e = (tt, e)
 judged-passed (r ∷ rs) x {a} {b} {c} {d} e =
     by_option r.fault
     (λ f. let i = judged-passed rs x (passes f) in ((f, i.0), i.1))
-    (λ p f. refused_accepted (refuses p f) e)
+    (λ p f. let r = refuses p f in cc)
   where
-    passes : r.fault ≡ none → judged rs x ≡ accepted a b c d
+    passes : r.fault ≡ None → judged rs x ≡ accepted a b c d
     passes f = sym (rw f) ∙ e
 
-    refuses : (p : ℕ) → r.fault ≡ some p → judged (r ∷ rs) x ≡ refused r.number p
+    refuses : (p : ℕ) → r.fault ≡ Some p → judged (r ∷ rs) x ≡ refused r.number p
     refuses p f = rw f
 
 pub passed-judged : (rs : List Rule) (x : Answer) → Passed rs → judged rs x ≡ x
@@ -49,7 +46,7 @@ passed-judged [] x p = refl
 passed-judged (r ∷ rs) x (f, p) = rw f (passed-judged rs x p)
 
 -- a rule by a test is passed where the test fails
-pub rule-passed : (b : Bool) (p : ℕ) → when b (some p) none ≡ none → b ≡ false
+pub rule-passed : (b : Bool) (p : ℕ) → when b (Some p) None ≡ None → b ≡ false
 rule-passed true p e = none_some e refl
 rule-passed false p e = refl
 
@@ -82,68 +79,33 @@ trailer_right_lem n l T (p1, (p2, (p3, (p4, (p5, (p6, _)))))) =
       inside = ltb-false n T.distance r6.1;
     }
 
--- ---- one row of the table: passed, or refusing
-module _ (n : ℕ) (x : Answer) where
-  pub row_past : (f : Fault) (o : Option ℕ) → placed f ≡ o → f ≡ Nothing → faulty n o x ≡ x
-  row_past f o e g = rw (← e, g)
-
-  pub row_at : (f : Fault) (o : Option ℕ) (p : ℕ) → placed f ≡ o → f ≡ At p → faulty n o x ≡ refused n p
-  row_at f o p e g = rw (← e, g)
-
-  -- a row by a test
-  pub test_past : (b : Bool) → b ≡ false → faulty n (when b (some 0) none) x ≡ x
-  test_past b e = rw e
-
-  pub test_at : (b : Bool) → b ≡ true → faulty n (when b (some 0) none) x ≡ refused n 0
-  test_at b e = rw e
-
-  -- a row that asks that two numbers are equal
-  pub equal_past : (a b : ℕ) → a ≡ b → faulty n (when (not (eqb a b)) (some 0) none) x ≡ x
-  equal_past a b e = rw (eq-eqb a b e)
-
-  pub equal_at : (a b : ℕ) → (a ≡ b → ⊥) → faulty n (when (not (eqb a b)) (some 0) none) x ≡ refused n 0
-  equal_at a b e = rw (ne_eqb a b e)
-
 -- ---- from the trailer to the table
--- what the trailer's number says of the answer for the bytes xs, which have the trailer T
-pub record Verdict (xs : List ℕ) (T : Trailer) (number : ℕ) : Type 0 where
-  pub refuses : (number ≡ 0 → ⊥) → refused number 0 ≡ check_book xs
-  pub right : number ≡ 0 → TrailerRight (length xs) (letters_right SB xs) T
-  pub holds : number ≡ 0 → (t : List ℕ) → t ≡ table_of xs → HoldsEdges t T.states T.edges
-  pub passes : number ≡ 0 → (x : Answer) (t : List ℕ) → t ≡ table_of xs
-      → x ≡ judged (table_rules t T.states T.edges) (accepted T.states T.edges 0 0) → x ≡ check_book xs
-
-module _ (xs : List ℕ) {T : Trailer} {l : Bool} (number : ℕ) (e : T ≡ trailer_of xs) (f : l ≡ letters_right SB xs)
-    (h : (x : Answer) → numbered number x ≡ judged (trailer_rules (length xs) l T) x) where
+-- what the check of the trailer says of the answer for the bytes xs, which have the trailer T
+module _ (xs : List ℕ) {T : Trailer} {l : Bool} (e : T ≡ trailer_of xs) (f : l ≡ letters_right SB xs) where
   abbrev rest : Answer
   rest = judged (table_rules (table_of xs) T.states T.edges) (accepted T.states T.edges 0 0)
 
-  answer : numbered number rest ≡ check_book xs
+  pub trailer_answer : {y : Answer} → y ≡ judged (trailer_rules (length xs) l T) rest → y ≡ check_book xs
   unfolding check_book
-  answer = rw (← e, ← f) (h rest)
+  trailer_answer h = rw (← e, ← f) h
 
-  zero_right : number ≡ 0 → TrailerRight (length xs) (letters_right SB xs) T
-  zero_right z =
-      let x = accepted 0 0 0 0 in
-      let k : numbered number x ≡ x = rw z in
-      rw f at (trailer_right_lem (length xs) l T (judged-passed (trailer_rules (length xs) l T) x (sym (h x) ∙ k)).0)
+  module _ (h : (x : Answer) → x ≡ judged (trailer_rules (length xs) l T) x) where
+    pub trailer_passed : TrailerRight (length xs) l T
+    trailer_passed =
+        trailer_right_lem (length xs) l T
+        (judged-passed (trailer_rules (length xs) l T) (accepted 0 0 0 0) (sym (h (accepted 0 0 0 0)))).0
 
-  zero_holds : number ≡ 0 → (t : List ℕ) → t ≡ table_of xs → HoldsEdges t T.states T.edges
-  unfolding table_at
-  zero_holds z t p =
-      let r = zero_right z in
-      let d : T.distance ≡ (trailer_of xs).distance = ap (λ (y : Trailer). y.distance) e in
-      let w = length-drop (table_at xs) xs in
-      rw p (omega (arith, w, d, r.distance, r.inside))
+    module _ (t : List ℕ) (p : t ≡ table_of xs) where
+      pub table_holds : HoldsEdges t T.states T.edges
+      unfolding table_at
+      table_holds =
+          let r = trailer_passed in
+          let d : T.distance ≡ (trailer_of xs).distance = ap (λ (y : Trailer). y.distance) e in
+          let w = length-drop (table_at xs) xs in
+          rw p (omega (arith, w, d, r.distance, r.inside))
 
-  pub verdict : Verdict xs T number
-  verdict =
-      record {
-        refuses = λ n. let k : numbered number rest ≡ refused number 0 = rw (ne_eqb number 0 n) in sym k ∙ answer;
-        right = zero_right;
-        holds = zero_holds;
-        passes = λ z x t p q. let k : numbered number rest ≡ rest = rw z in rw p at q ∙ (sym k ∙ answer);
-      }
+      pub table_answer : {y : Answer} → y ≡ judged (table_rules t T.states T.edges) (accepted T.states T.edges 0 0) → y ≡ check_book xs
+      table_answer q = trailer_answer (rw p at q ∙ h rest)
 
 pub table_part : (xs : List ℕ) (at : ℕ) → at ≡ table_at xs → take (length xs - at) (drop at xs) ≡ table_of xs
 table_part xs at e =

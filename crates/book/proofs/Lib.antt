@@ -1,7 +1,6 @@
 -- Laws and theorems of the crate, in the order in which they build on each other; `Accepted` and `Note` are what they are for.
 --   Cases               tests and options taken apart
 --   Read, Turn          what the readers read; one turn of each search over records
---   Answers             an answer's numbers keep its cases apart: no second outcome
 --   Judged              the rules, row by row
 --   Model, Look         the model of a table, and what is found in it
 --   Searches            what a search that finds nothing went past

@@ -7,13 +7,14 @@
 --   narrowed_start      among `count` bytes that rise an event stands from event + count - 256 to event
 use mathlib.Core.Path.{◌≡◌, refl, sym, ap, ◌∙◌}
 use mathlib.Core.Bool.{false}
-use mathlib.Core.Option.{Option, none, some}
+use Rattle.std.specs.Prelude.{Option, None, Some}
 use mathlib.Core.List.{List}
 use Prim.Native.Nat.{ℕ, zero, suc, ◌+◌, ◌-◌, ◌/◌, ◌≤◌, ◌<◌, min}
 use native.Mathlib.Omega.{arith}
 use lib.ListN.{get_or}
 use lib.Dec.{eqb}
 use borrow.Author.Tests.{eq-eqb, ne_eqb}
+use Rattle.meaning.specs.Choice.{when}
 use Rattle.meaning.specs.Book.{look}
 use Rattle.book.specs.Form.{edge_record_at}
 use Rattle.book.specs.Model.{list_from, edges_from, RiseFrom}
@@ -29,27 +30,30 @@ pub target_is : {e x : EdgeRecord} → e ≡ x → e.target ≡ x.target
 target_is h = ap (λ (y : EdgeRecord). y.target) h
 
 -- ---- one after the other
-pub record SeekLoop (t : List ℕ) (S a first count j left : ℕ) : Type 0 where
-  pub bound : j + left ≤ 1000000000
-  pub same : look (edges_from t S count first) a ≡ look (edges_from t S left j) a
+pub record SeekLoop (t : List ℕ) (S a first count j : ℕ) : Type 0 where
+  pub same : look (edges_from t S count first) a ≡ look (edges_from t S (first + count - j) j) a
 
-pub seek_end : {t : List ℕ} {S a first count j left : ℕ} → SeekLoop t S a first count j left → left ≡ 0
-    → none ≡ look (edges_from t S count first) a
-seek_end {t} {S} {a} {j = j} {left = left} L z = sym (L.same ∙ look_end t S left j a z)
+pub seek_end : {t : List ℕ} {S a first count j : ℕ} → SeekLoop t S a first count j → first + count ≤ j
+    → None ≡ look (edges_from t S count first) a
+seek_end {t} {S} {a} {first} {count} {j} L z = sym (L.same ∙ look_end t S (first + count - j) j a (omega arith))
 
-module _ {t : List ℕ} {S a first count j left : ℕ} (L : SeekLoop t S a first count j left) (some_left : 0 < left)
-    (f : ℕ) (e : f ≡ (edge_record_at t S j).event) where
-  pub seek_here : (q : ℕ) → f ≡ a → q ≡ (edge_record_at t S j).target → some q ≡ look (edges_from t S count first) a
-  seek_here q h k = sym (L.same ∙ look_turn t S left j a f some_left e ∙ rw (eq-eqb f a h, ← k))
+module _ {t : List ℕ} {S a first count j : ℕ} (L : SeekLoop t S a first count j) (some_left : j < first + count)
+    {f : EdgeRecord} (e : f ≡ edge_record_at t S j) where
+  seek_turn : look (edges_from t S count first) a
+      ≡ when (eqb f.event a) (Some (edge_record_at t S j).target) (look (edges_from t S (first + count - (j + 1)) (j + 1)) a)
+  seek_turn =
+      let d : first + count - (j + 1) ≡ first + count - j - 1 = omega arith in
+      rw d (L.same ∙ look_turn t S (first + count - j) j a f.event (omega arith) (event_is e))
 
-  pub seek-next : (f ≡ a → ⊥) → SeekLoop t S a first count (j + 1) (left - 1)
-  seek-next h =
-      let l = L.bound in
-      record { bound = omega arith; same = L.same ∙ look_turn t S left j a f some_left e ∙ rw (ne_eqb f a h) }
+  pub seek_here : f.event ≡ a → Some f.target ≡ look (edges_from t S count first) a
+  seek_here h = sym (seek_turn ∙ rw (eq-eqb f.event a h, ← target_is e))
+
+  pub seek-next : (f.event ≡ a → ⊥) → SeekLoop t S a first count (j + 1)
+  seek-next h = record { same = seek_turn ∙ rw (ne_eqb f.event a h) }
 
 -- ---- by halving
 look_none : (t : List ℕ) (S a n j : ℕ) → ((k : ℕ) → j ≤ k → k < j + n → (edge_record_at t S k).event ≡ a → ⊥)
-    → look (edges_from t S n j) a ≡ none
+    → look (edges_from t S n j) a ≡ None
 unfolding list_from
 look_none t S a zero j h = refl
 look_none t S a (suc n) j h =
@@ -68,7 +72,7 @@ event_small t S bytes k = bytes _
 
 -- no event is above 255
 pub look_above : (t : List ℕ) (S a n j : ℕ) → ((i : ℕ) → get_or t i 0 < 256) → 255 < a
-    → none ≡ look (edges_from t S n j) a
+    → None ≡ look (edges_from t S n j) a
 look_above t S a n j bytes h = sym (look_none t S a n j (λ k l u e. let b = event_small t S bytes k in omega arith))
 
 -- among bytes that rise: d edges on, the event is greater by d at least
@@ -91,7 +95,7 @@ narrowed_all t S a first count =
     }
 
 pub narrowed_start : (t : List ℕ) (S a first count low high left : ℕ) → RiseFrom t S count first
-    → ((i : ℕ) → get_or t i 0 < 256) → a < 256 → low ≡ a + count - 256 → high ≡ min (a + 1) count → left ≡ high - low
+    → ((i : ℕ) → get_or t i 0 < 256) → a < 256 → low ≡ a + count - 256 → high ≡ min count (a + 1) → left ≡ high - low
     → Narrowed t S a first count (first + low) left
 narrowed_start t S a first count low high left R bytes small el eh ef =
     record {
@@ -110,7 +114,7 @@ narrowed_start t S a first count low high left R bytes small el eh ef =
     }
 
 pub narrowed_end : {t : List ℕ} {S a first count j left : ℕ} → Narrowed t S a first count j left → left ≡ 0
-    → none ≡ look (edges_from t S count first) a
+    → None ≡ look (edges_from t S count first) a
 narrowed_end {t} {S} {a} {first} {count} {j} N z =
     sym
     (look_none t S a count first
@@ -127,11 +131,11 @@ module _ {t : List ℕ} {S a first count j left : ℕ} (N : Narrowed t S a first
   abbrev event : ℕ → ℕ
   event k = (edge_record_at t S k).event
 
-  pub narrowed_here : (q : ℕ) → f ≡ a → q ≡ (edge_record_at t S mid).target → some q ≡ look (edges_from t S count first) a
+  pub narrowed_here : (q : ℕ) → f ≡ a → q ≡ (edge_record_at t S mid).target → Some q ≡ look (edges_from t S count first) a
   narrowed_here q h k =
       let l = N.low in
       let u = N.high in
-      ap {B = Option ℕ} some k
+      ap {B = Option ℕ} Some k
       ∙ sym
       (look_finds t S a count first mid (omega arith) (omega arith) (sym e ∙ h)
       (λ i m v g. let b = R i mid m v (omega arith) in omega arith))

@@ -6,7 +6,7 @@
 --   look_turn                       a search among them
 --   first_in_lem, lead_delta        the first edge of each state; where an event leads by it is where it leads in the book
 use mathlib.Core.Path.{◌≡◌, refl, sym, ap, ◌∙◌}
-use mathlib.Core.Option.{Option, none, some}
+use Rattle.std.specs.Prelude.{Option, None, Some}
 use mathlib.Core.List.{List, [], ◌∷◌, map}
 use Prim.Native.Nat.{ℕ, zero, suc, ◌+◌, ◌-◌, ◌%◌, ◌≤◌, ◌<◌}
 use native.Mathlib.Omega.{arith}
@@ -102,10 +102,10 @@ module _ (t : List ℕ) (S : ℕ) where
 
   pub look_turn : (n j a f : ℕ) → 0 < n → f ≡ (edge_record_at t S j).event
       → look (edges_from t S n j) a
-      ≡ when (eqb f a) (some (edge_record_at t S j).target) (look (edges_from t S (n - 1) (j + 1)) a)
+      ≡ when (eqb f a) (Some (edge_record_at t S j).target) (look (edges_from t S (n - 1) (j + 1)) a)
   look_turn n j a f h k = rw (list_from-step (edge_of t S) n j h, k)
 
-  pub look_end : (n j a : ℕ) → n ≡ 0 → look (edges_from t S n j) a ≡ none
+  pub look_end : (n j a : ℕ) → n ≡ 0 → look (edges_from t S n j) a ≡ None
   unfolding list_from
   look_end n j a e = rw e
 
@@ -174,6 +174,10 @@ pub lead_by : (t : List ℕ) (S : ℕ) (first : List ℕ) (q a n j : ℕ) {o : O
     → n ≡ length (outs (table_book t S) q) → j ≡ get_or first q 0 → o ≡ look (edges_from t S n j) a → o ≡ lead_of t S first q a
 unfolding lead_of
 lead_by t S first q a n j l e f h = rw (lt-ltb q most_states l, ← e, ← f) h
+
+pub lead-past : (t : List ℕ) (S : ℕ) (first : List ℕ) (q a : ℕ) → most_states ≤ q → None ≡ lead_of t S first q a
+unfolding lead_of
+lead-past t S first q a h = rw (le-ltb q most_states h)
 
 module _ (t : List ℕ) (S : ℕ) where
   -- the edges of the states below q, counted in the model and in the bytes

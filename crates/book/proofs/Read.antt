@@ -1,50 +1,57 @@
--- What the readers read, on plain values: a record that starts past the end of the bytes is zeros; the trailer's numbers
--- from where it starts; its letters. Assumes nothing.
-use mathlib.Core.Path.{◌≡◌, sym, ap, ◌∙◌}
-use mathlib.Core.Bool.{false}
+-- What the readers read, on plain values: a record from where it starts, which past the end of the bytes is zeros; the
+-- trailer's numbers. Assumes nothing.
+use mathlib.Core.Path.{◌≡◌, refl, sym, ap, ◌∙◌}
 use mathlib.Core.List.{List}
 use Prim.Native.Nat.{ℕ, ◌+◌, ◌≤◌}
 use native.Mathlib.Omega.{arith}
-use lib.ListN.{length, get_or, get_or-eq_default}
-use lib.Dec.{eqb}
-use borrow.Author.Tests.{eq-eqb, ne_eqb}
-use Rattle.wire.specs.Little.{le16_at, le32_at}
+use lib.ListN.{length, get_or-eq_default}
+use Rattle.wire.specs.Little.{ByteIs, NumberIs, le16_at, le32_at}
 use Rattle.wire.proofs.Little.{le16_out}
-use Rattle.book.specs.Form.{trailer_at, trailer_of, letters_right}
+use Rattle.book.specs.Form.{trailer_at, trailer_of}
 use Rattle.book.specs.Form.{state_place, edge_place, state_record_at, edge_record_at}
+use Rattle.book.specs.Reads.{StateIs, EdgeIs}
 use Rattle.book.specs.declared.Trailer.{Trailer}
 use Rattle.book.specs.declared.StateRecord.{StateRecord}
 use Rattle.book.specs.declared.EdgeRecord.{EdgeRecord}
 
-abbrev pub no_state : StateRecord
-no_state = record { mark = 0; spare = 0; count = 0 }
+byte-past : (t : List ℕ) (at : ℕ) {b : ℕ} → b ≡ 0 → length t ≤ at → ByteIs t at b
+byte-past t at e h = record { is = e ∙ sym (get_or-eq_default t 0 h); small = omega arith }
 
-abbrev pub no_edge : EdgeRecord
-no_edge = record { event = 0; spare = 0; target = 0 }
+number-past : (t : List ℕ) (at : ℕ) {n : ℕ} → n ≡ 0 → length t ≤ at → NumberIs (le16_at t at) 65536 n
+number-past t at e h = record { is = e ∙ sym (le16_out t at h); small = omega arith }
 
-pub state-past : (t : List ℕ) (s : ℕ) → length t ≤ state_place s → no_state ≡ state_record_at t s
-unfolding state_record_at
-state-past t s h =
-    let at = state_place s in
-    let h₁ : length t ≤ at + 1 = omega arith in
-    let h₂ : length t ≤ at + 2 = omega arith in
-    λ i. record {
-      mark = (sym (get_or-eq_default t 0 h)) i;
-      spare = (sym (get_or-eq_default t 0 h₁)) i;
-      count = (sym (le16_out t (at + 2) h₂)) i;
-    }
+-- ---- a record from its bytes, and one past the end of the bytes
+module _ (t : List ℕ) (s : ℕ) {r : StateRecord} where
+  pub state_read : (at : ℕ) → at ≡ state_place s → ByteIs t at r.mark → ByteIs t (at + 1) r.spare
+      → NumberIs (le16_at t (at + 2)) 65536 r.count → StateIs (state_record_at t s) r
+  unfolding state_record_at
+  state_read at e m p n =
+      record {
+        is = λ i. record { mark = (rw e at m.is) i; spare = (rw e at p.is) i; count = (rw e at n.is) i };
+        mark = m.small;
+        count = n.small;
+      }
 
-pub edge-past : (t : List ℕ) (S j : ℕ) → length t ≤ edge_place S j → no_edge ≡ edge_record_at t S j
-unfolding edge_record_at
-edge-past t S j h =
-    let at = edge_place S j in
-    let h₁ : length t ≤ at + 1 = omega arith in
-    let h₂ : length t ≤ at + 2 = omega arith in
-    λ i. record {
-      event = (sym (get_or-eq_default t 0 h)) i;
-      spare = (sym (get_or-eq_default t 0 h₁)) i;
-      target = (sym (le16_out t (at + 2) h₂)) i;
-    }
+  pub state-past : (r.mark ≡ 0) × ((r.spare ≡ 0) × (r.count ≡ 0)) → length t ≤ state_place s → StateIs (state_record_at t s) r
+  state-past (m, (p, n)) h =
+      let at = state_place s in
+      state_read at refl (byte-past t at m h) (byte-past t (at + 1) p (omega arith)) (number-past t (at + 2) n (omega arith))
+
+module _ (t : List ℕ) (S j : ℕ) {r : EdgeRecord} where
+  pub edge_read : (at : ℕ) → at ≡ edge_place S j → ByteIs t at r.event → ByteIs t (at + 1) r.spare
+      → NumberIs (le16_at t (at + 2)) 65536 r.target → EdgeIs (edge_record_at t S j) r
+  unfolding edge_record_at
+  edge_read at e m p n =
+      record {
+        is = λ i. record { event = (rw e at m.is) i; spare = (rw e at p.is) i; target = (rw e at n.is) i };
+        event = m.small;
+        target = n.small;
+      }
+
+  pub edge-past : (r.event ≡ 0) × ((r.spare ≡ 0) × (r.target ≡ 0)) → length t ≤ edge_place S j → EdgeIs (edge_record_at t S j) r
+  edge-past (m, (p, n)) h =
+      let at = edge_place S j in
+      edge_read at refl (byte-past t at m h) (byte-past t (at + 1) p (omega arith)) (number-past t (at + 2) n (omega arith))
 
 pub trailer_read : (xs : List ℕ) (at d s e f : ℕ) → at ≡ trailer_at xs
     → d ≡ le32_at xs at → s ≡ le16_at xs (at + 4) → e ≡ le16_at xs (at + 6) → f ≡ le16_at xs (at + 8)
@@ -57,14 +64,3 @@ trailer_read xs at d s e f h p q r u =
       edges = (r ∙ ap (λ (k : ℕ). le16_at xs (k + 6)) h) i;
       form = (u ∙ ap (λ (k : ℕ). le16_at xs (k + 8)) h) i;
     }
-
--- the first letter is wrong; it is right, and the second decides
-module _ (ls xs : List ℕ) (at a : ℕ) (h : at ≡ trailer_at xs) (e : a ≡ get_or xs (at + 10) 0) where
-  pub letters-first : (a ≡ get_or ls 0 0 → ⊥) → false ≡ letters_right ls xs
-  unfolding letters_right
-  letters-first n = rw (← h, ← e, ne_eqb a (get_or ls 0 0) n)
-
-  pub letters-second : (b : ℕ) → a ≡ get_or ls 0 0 → b ≡ get_or xs (at + 10 + 1) 0
-      → eqb b (get_or ls 1 0) ≡ letters_right ls xs
-  unfolding letters_right
-  letters-second b k f = rw (← h, ← e, eq-eqb a (get_or ls 0 0) k, ← f)

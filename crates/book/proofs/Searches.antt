@@ -2,7 +2,7 @@
 -- state; rising events; what a look among edges finds. Assumes nothing.
 use mathlib.Core.Path.{◌≡◌, refl, sym, ap, ◌∙◌, subst}
 use mathlib.Core.Bool.{Bool, true, false}
-use mathlib.Core.Option.{Option, none, some}
+use Rattle.std.specs.Prelude.{Option, None, Some}
 use mathlib.Core.List.{List}
 use Prim.Native.Nat.{ℕ, zero, suc, ◌+◌, ◌-◌, ◌≤◌, ◌<◌}
 use native.Mathlib.Omega.{arith}
@@ -16,15 +16,15 @@ use Rattle.book.specs.Rules.{first_fault, or_else, own_faults, entered}
 use Rattle.book.proofs.Cases.{by_bool, by_eq, by_below, none_some, true_false}
 
 -- ---- nothing found
-passed : (b : Bool) (p : ℕ) (o : Option ℕ) → when b (some p) o ≡ none → (b ≡ false) × (o ≡ none)
+passed : (b : Bool) (p : ℕ) (o : Option ℕ) → when b (Some p) o ≡ None → (b ≡ false) × (o ≡ None)
 passed true p o e = none_some e refl
 passed false p o e = (refl, e)
 
-both_none : (o u : Option ℕ) → or_else o u ≡ none → (o ≡ none) × (u ≡ none)
-both_none none u e = (refl, e)
-both_none (some p) u e = none_some e refl
+both_none : (o u : Option ℕ) → or_else o u ≡ None → (o ≡ None) × (u ≡ None)
+both_none None u e = (refl, e)
+both_none (Some p) u e = none_some e refl
 
-pub first_fault_none : (bad : ℕ → Bool) (place : ℕ → ℕ) (n k : ℕ) → first_fault bad place n k ≡ none
+pub first_fault_none : (bad : ℕ → Bool) (place : ℕ → ℕ) (n k : ℕ) → first_fault bad place n k ≡ None
     → (i : ℕ) → k ≤ i → i < k + n → bad i ≡ false
 unfolding first_fault
 first_fault_none bad place zero k e i l h = absurd (let w : ⊥ = omega arith in w)
@@ -33,14 +33,14 @@ first_fault_none bad place (suc n) k e i l h =
     by_eq k i (λ q. rw q at s.0) (λ q. first_fault_none bad place n (k + 1) s.1 i (omega arith) (omega arith))
 
 pub first_fault-fine : (bad : ℕ → Bool) (place : ℕ → ℕ) (n k : ℕ) → ((i : ℕ) → k ≤ i → i < k + n → bad i ≡ false)
-    → first_fault bad place n k ≡ none
+    → first_fault bad place n k ≡ None
 unfolding first_fault
 first_fault-fine bad place zero k h = refl
 first_fault-fine bad place (suc n) k h =
     rw (h k (omega arith) (omega arith))
     (first_fault-fine bad place n (k + 1) (λ i l u. h i (omega arith) (omega arith)))
 
-pub own_faults_none : (bad : ℕ → ℕ → Bool) (t : List ℕ) (S n s : ℕ) → own_faults bad t S n s ≡ none
+pub own_faults_none : (bad : ℕ → ℕ → Bool) (t : List ℕ) (S n s : ℕ) → own_faults bad t S n s ≡ None
     → (r : ℕ) → s ≤ r → r < s + n → (j : ℕ) → first_edge t r ≤ j → j < first_edge t r + (state_record_at t r).count
     → bad r j ≡ false
 unfolding own_faults
@@ -50,7 +50,7 @@ own_faults_none bad t S (suc n) s e r l h j a b =
     by_eq s r
     (λ q.
     first_fault_none (bad r) (edge_place S) (state_record_at t r).count (first_edge t r)
-    (subst (λ (k : ℕ). first_fault (bad k) (edge_place S) (state_record_at t k).count (first_edge t k) ≡ none) q o.0) j a b)
+    (subst (λ (k : ℕ). first_fault (bad k) (edge_place S) (state_record_at t k).count (first_edge t k) ≡ None) q o.0) j a b)
     (λ q. own_faults_none bad t S n (s + 1) o.1 r (omega arith) (omega arith) j a b)
 
 -- ---- an edge into a state; the state that an edge belongs to
@@ -88,14 +88,14 @@ rise_all f a b h (suc n) i l u =
 
 -- ---- what a look among edges finds
 module _ (t : List ℕ) (S a : ℕ) where
-  pub look_some : (n j p : ℕ) → look (edges_from t S n j) a ≡ some p
+  pub look_some : (n j p : ℕ) → look (edges_from t S n j) a ≡ Some p
       → (i : ℕ) × (j ≤ i) × (i < j + n) × ((edge_record_at t S i).event ≡ a) × ((edge_record_at t S i).target ≡ p)
   unfolding list_from
   look_some zero j p e = none_some refl e
   look_some (suc n) j p e =
       by_bool (eqb (edge_record_at t S j).event a)
       (λ b.
-      let f : ◌≡◌ {A = Option ℕ} (some (edge_record_at t S j).target) (some p) = sym (rw b) ∙ e in
+      let f : ◌≡◌ {A = Option ℕ} (Some (edge_record_at t S j).target) (Some p) = sym (rw b) ∙ e in
       (j, omega arith, omega arith, eqb-true _ a b, cc))
       (λ b.
       let w = look_some n (j + 1) p (sym (rw b) ∙ e) in
@@ -105,13 +105,13 @@ module _ (t : List ℕ) (S a : ℕ) where
 
   pub look_finds : (n j i : ℕ) → j ≤ i → i < j + n → (edge_record_at t S i).event ≡ a
       → ((k : ℕ) → j ≤ k → k < i → (edge_record_at t S k).event ≡ a → ⊥)
-      → look (edges_from t S n j) a ≡ some (edge_record_at t S i).target
+      → look (edges_from t S n j) a ≡ Some (edge_record_at t S i).target
   unfolding list_from
   look_finds zero j i l u e h = absurd (let w : ⊥ = omega arith in w)
   look_finds (suc n) j i l u e h =
       by_eq j i
       (λ q.
       let b : eqb (edge_record_at t S j).event a ≡ true = eq-eqb _ a (rw q e) in
-      rw b (ap (λ (k : ℕ). some (edge_record_at t S k).target) q))
+      rw b (ap (λ (k : ℕ). Some (edge_record_at t S k).target) q))
       (λ q. let b : eqb (edge_record_at t S j).event a ≡ false = ne_eqb _ a (h j (omega arith) (omega arith)) in
       rw b (look_finds n (j + 1) i (omega arith) (omega arith) e (λ k m v. h k (omega arith) v)))

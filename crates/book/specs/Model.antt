@@ -6,15 +6,12 @@
 --   book_of xs          THE BOOK of the bytes xs
 --   edges_below, firsts_of  for each of 512 states the number of its first edge, in 16 bits
 --   RiseFrom, Rising    what a search by halving asks: the events rise
---   led_to              what a search found, as the model has it
 --   lead_of             where an event leads from a state, whose first edge is listed
 use Rattle.std.specs.Prelude.{ℕ, zero, suc, ◌+◌, ◌%◌, ◌≤◌, ◌<◌, List, [], ◌∷◌, length, get_or, ltb}
-use Rattle.std.proofs.Math.Option.{Option, none, some}
+use Rattle.std.specs.Prelude.{Option, None}
 use Rattle.meaning.specs.Choice.{when}
 use Rattle.meaning.specs.Book.{Edge, edge, State, state, Book, outs, look}
 use Rattle.book.specs.Form.{most_states, trailer_of, table_of, state_record_at, edge_record_at}
-use Rattle.book.specs.declared.Found.{Found}
-use Rattle.book.specs.declared.Found.TheVariants.{To, Nothing}
 
 unfoldable pub list_from : {A : Type 0} → (ℕ → A) → ℕ → ℕ → List A
 list_from f zero k = []
@@ -54,11 +51,6 @@ RiseFrom t S n j = (i k : ℕ) → j ≤ i → i < k → k < j + n → (edge_rec
 abbrev pub Rising : List ℕ → ℕ → List ℕ → ℕ → Type 0
 Rising t S first q = q < most_states → RiseFrom t S (length (outs (table_book t S) q)) (get_or first q 0)
 
--- what a search found, as the model has it
-abbrev pub led_to : Found → Option ℕ
-led_to (To q) = some q
-led_to Nothing = none
-
 unfoldable pub lead_of : List ℕ → ℕ → List ℕ → ℕ → ℕ → Option ℕ
 lead_of t S first q a =
-    when (ltb q most_states) (look (edges_from t S (length (outs (table_book t S) q)) (get_or first q 0)) a) none
+    when (ltb q most_states) (look (edges_from t S (length (outs (table_book t S) q)) (get_or first q 0)) a) None

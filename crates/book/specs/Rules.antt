@@ -7,32 +7,33 @@
 --   entered               does some edge lead into a state
 --   trailer_rules, table_rules  THE TABLE: number, when, place
 --   check_book xs         what the check of the bytes xs answers
---   told                  the numbers of each case of an answer
+--   counted, told         the numbers of the counts; of an answer
 use Rattle.std.specs.Prelude.{ℕ, zero, suc, ◌+◌, ◌-◌, List, [], ◌∷◌, ◌++◌, Bool, false, not, ◌&&◌, ◌||◌, length, eqb, leb, ltb}
-use Rattle.std.proofs.Math.Option.{Option, none, some}
+use Rattle.std.specs.Prelude.{Option, None, Some, Result}
 use Rattle.meaning.specs.Choice.{when}
-use Rattle.meaning.specs.Answer.{Answer, accepted, refused, Rule, rule, rule_at, judged}
+use Rattle.meaning.specs.Answer.{Answer, accepted, Rule, rule, rule_at, judged}
+use Rattle.meaning.specs.Refusal.{told as told_by}
+use Rattle.meaning.specs.declared.Refusal.{Refusal}
 use Rattle.book.specs.Form.{most_states, most_edges, most_bytes, trailer_size, size_of, SB, letters_right}
 use Rattle.book.specs.Form.{trailer_of, table_of, state_record_at, edge_record_at, state_place, edge_place}
 use Rattle.book.specs.Model.{first_edge}
 use Rattle.book.specs.declared.Trailer.{Trailer}
 use Rattle.book.specs.declared.StateRecord.{StateRecord}
 use Rattle.book.specs.declared.EdgeRecord.{EdgeRecord}
-use Rattle.book.specs.declared.Checked.{Checked}
-use Rattle.book.specs.declared.Checked.TheVariants.{Fine, Refused}
+use Rattle.book.specs.declared.Counts.{Counts}
 
 -- ---- searches
 unfoldable pub first_fault : (ℕ → Bool) → (ℕ → ℕ) → ℕ → ℕ → Option ℕ
-first_fault bad place zero k = none
-first_fault bad place (suc n) k = when (bad k) (some (place k)) (first_fault bad place n (k + 1))
+first_fault bad place zero k = None
+first_fault bad place (suc n) k = when (bad k) (Some (place k)) (first_fault bad place n (k + 1))
 
 abbrev pub or_else : Option ℕ → Option ℕ → Option ℕ
-or_else none o = o
-or_else (some p) o = some p
+or_else None o = o
+or_else (Some p) o = Some p
 
 -- over the edges of n states from state s on, of the table t of S states
 unfoldable pub own_faults : (ℕ → ℕ → Bool) → List ℕ → ℕ → ℕ → ℕ → Option ℕ
-own_faults bad t S zero s = none
+own_faults bad t S zero s = None
 own_faults bad t S (suc n) s =
     or_else (first_fault (bad s) (edge_place S) (state_record_at t s).count (first_edge t s)) (own_faults bad t S n (s + 1))
 
@@ -103,6 +104,8 @@ check_book xs =
     (accepted T.states T.edges 0 0)
 
 -- ---- the answer's numbers
-abbrev pub told : Checked → Answer
-told (Fine s e) = accepted s e 0 0
-told (Refused n p) = refused n p
+abbrev pub counted : Counts → Answer
+counted c = accepted c.states c.edges 0 0
+
+abbrev pub told : Result Counts Refusal → Answer
+told r = told_by counted r

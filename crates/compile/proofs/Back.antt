@@ -20,7 +20,6 @@ use Rattle.meaning.proofs.Edges.{first_edge-suc, first_edge_mono}
 use Rattle.image.specs.Form.{PlaceRecord, EdgeRecord, Trailer, form1, size_of, place_at, edge_at, has_letters}
 use Rattle.compile.specs.Bytes.{edge_record, trailer_of, spread, place_of, edges_of, places_below, edges_below}
 use Rattle.compile.specs.Bytes.{edge_count, image_bytes}
-use Rattle.compile.specs.Write.{Wrote}
 use Rattle.compile.proofs.Records.{place_bytes, edge_bytes, length-places, length_edges}
 use Rattle.compile.proofs.Written.{length-spread, sets_at}
 
@@ -117,14 +116,14 @@ trailer_back xs at r X l1 l2 l3 l4 =
 
 -- record i of records that were written one after the other, where there is room for them
 pub wrote-stand : {A : Type 0} (g : A → List ℕ) (k : ℕ) → ((r : A) → length (g r) ≡ k) → (rs : List A) (x : A)
-    {d d' : List ℕ} {at r : ℕ} → Wrote d at (spread g rs) d' r → at + k * length rs ≤ length d
+    (d : List ℕ) (at : ℕ) {d' : List ℕ} → d' ≡ sets d at (spread g rs) → at + k * length rs ≤ length d
     → (i to : ℕ) → i < length rs → to ≡ at + k * i → Stand d' to k (g (get_or rs i x))
-wrote-stand g k size rs x {d} {d'} {at} W room i to l e =
+wrote-stand g k size rs x d at W room i to l e =
     let n = length-spread g k size rs in
     record {
       byte = λ j h.
           let z : to + j ≡ at + (k * i + j) = omega arith in
-          ap (λ (y : List ℕ). get_or y (to + j) 0) W.is
+          ap (λ (y : List ℕ). get_or y (to + j) 0) W
           ∙ ap (λ (y : ℕ). get_or (sets d at (spread g rs)) y 0) z
           ∙ sets_at d at (spread g rs) (omega arith) (k * i + j)
           ∙ spread_at g k size rs x i j l h (drop (at + length (spread g rs)) d);

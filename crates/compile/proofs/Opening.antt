@@ -2,7 +2,7 @@
 -- opened, `Exploring` while the places from p on are still to be opened; the rest is one turn of each. Assumes
 -- nothing.
 use mathlib.Core.Path.{◌≡◌, refl, sym, ap, ◌∙◌, subst}
-use mathlib.Core.Option.{none, some}
+use Rattle.std.specs.Prelude.{None, Some}
 use mathlib.Core.List.{List, [], ◌∷◌, Memᴰ}
 use Prim.Native.Nat.{ℕ, zero, suc, ◌+◌, ◌*◌, ◌-◌, ◌≤◌, ◌<◌}
 use native.Mathlib.Omega.{arith}
@@ -21,8 +21,8 @@ use Rattle.meaning.proofs.Keys.{has_get_d}
 use Rattle.meaning.proofs.Numbering.{Opening, opening_under, Loop, loop_start, loop_opening}
 use Rattle.meaning.proofs.Rules.{whole-rule}
 use Rattle.meaning.proofs.Places.{opening_meet, loop_opened}
-use Rattle.compile.specs.Work.{Rows, chain_of, list_of, Fit}
-use Rattle.compile.specs.Explore.{whole, rest_after, HasPlace, RestMet, Grown, Opened, start, next, Explored}
+use Rattle.compile.specs.Work.{Rows, chain_of, list_of, Held}
+use Rattle.compile.specs.Explore.{whole, rest_after, HasPlace, RestMet, Listed, Opened, start, next, AllFound}
 use Rattle.compile.proofs.Rows.{length_list, list_at, list_one}
 use Rattle.compile.proofs.Seek.{head_of}
 use Rattle.compile.proofs.Meet.{mem_place}
@@ -51,13 +51,13 @@ meet_all_kept δ c (a ∷ es) L i l =
 
 -- one place more of the numbering
 module _ (δ : Delta) (out : ℕ → List ℕ) where
-  grow_long : (f p : ℕ) (L : List Chain) → p + f < length L → grow δ out f (ltb p (length L)) p L ≡ none
+  grow_long : (f p : ℕ) (L : List Chain) → p + f < length L → grow δ out f (ltb p (length L)) p L ≡ None
   grow_long zero p L l = rw (lt-ltb p (length L) (omega arith))
   grow_long (suc f) p L l =
       let k = meet_all-longer δ (get_or L p []) (out (head (get_or L p []))) L in
       rw (lt-ltb p (length L) (omega arith)) (grow_long f (suc p) (opened δ out p L) (omega arith))
 
-  grow_end : (f p : ℕ) (L : List Chain) → length L ≤ p → grow δ out f (ltb p (length L)) p L ≡ some L
+  grow_end : (f p : ℕ) (L : List Chain) → length L ≤ p → grow δ out f (ltb p (length L)) p L ≡ Some L
   grow_end zero p L l = rw (le-ltb p (length L) l)
   grow_end (suc f) p L l = rw (le-ltb p (length L) l)
 
@@ -95,32 +95,28 @@ rest_under B [] a = refl
 rest_under B (x ∷ c) a = refl
 
 -- the place p, of the chain c, is being opened: the list M will be met, of which these events are left
-pub record Meeting (B : Book) (p : ℕ) (c : Chain) (M : List Chain) (es newest earlier : List ℕ) (w : Rows) (n : ℕ)
-    : Type 0 where
-  pub fit : Fit newest earlier w n
+pub record Meeting (B : Book) (p : ℕ) (c : Chain) (M : List Chain) (es : List ℕ) (w : Rows) (n : ℕ) : Type 0 where
   pub below : p < n
   pub of_p : chain_of w p ≡ c
   pub opening : Opening whole (delta B) c p (list_of w n)
   pub to_meet : M ≡ meet_all (delta B) c es (list_of w n)
 
-pub meeting_start : (B : Book) (p : ℕ) {es newest earlier : List ℕ} {w : Rows} {n : ℕ} → Fit newest earlier w n → p < n
+pub meeting_start : (B : Book) (p : ℕ) {es : List ℕ} {w : Rows} {n : ℕ} → Held w n → p < n
     → Opened (delta B) (outs B) p (list_of w n) → es ≡ outs B (get_or w.heads p 0)
-    → Meeting B p (chain_of w p) (opened (delta B) (outs B) p (list_of w n)) es newest earlier w n
-meeting_start B p {es} {newest} {earlier} {w} {n} F l o e =
+    → Meeting B p (chain_of w p) (opened (delta B) (outs B) p (list_of w n)) es w n
+meeting_start B p {es} {w} {n} H l o e =
     let k = length_list w n in
     let at = list_at w n p l in
     record {
-      fit = F;
       below = l;
       of_p = refl;
       opening =
           subst (λ (z : Chain). Opening whole (delta B) z p (list_of w n)) at
           (loop_opening whole (delta B) p (list_of w n) (opened_loop B o) (omega arith));
-      to_meet = rw (at, head_of w n F.held p, e);
+      to_meet = rw (at, head_of w n H p, e);
     }
 
-module _ {B : Book} {p : ℕ} {c : Chain} {M : List Chain} {es newest earlier : List ℕ} {w : Rows} {n : ℕ}
-    (O : Meeting B p c M es newest earlier w n) where
+module _ {B : Book} {p : ℕ} {c : Chain} {M : List Chain} {es : List ℕ} {w : Rows} {n : ℕ} (O : Meeting B p c M es w n) where
   -- what follows in the chain after an event was met before
   pub meeting_rest : (a : ℕ) → RestMet B w n p a
   meeting_rest a =
@@ -135,79 +131,67 @@ module _ {B : Book} {p : ℕ} {c : Chain} {M : List Chain} {es newest earlier : 
             ∙ ap (λ (z : Chain). rest_after (delta B) z a) (sym O.of_p),
       )
 
-  pub meeting_end : es ≡ [] → Grown newest earlier w M n
-  meeting_end e =
-      let few = O.fit.held.few in
-      record {
-        over = λ h. absurd (let x : ⊥ = omega arith in x);
-        fit = λ h. O.fit;
-        is = λ h. sym (O.to_meet ∙ rw e);
-      }
+  pub meeting_end : es ≡ [] → Listed w n M
+  meeting_end e = record { is = sym (O.to_meet ∙ rw e) }
 
-  module _ {a : ℕ} {fs : List ℕ} (first : es ≡ a ∷ fs) {newest' earlier' : List ℕ} {w' : Rows} {n' : ℕ}
-      (G : Grown newest' earlier' w' (meet (step (delta B) (chain_of w p) a) (list_of w n)) n') where
+  module _ {a : ℕ} {fs : List ℕ} (first : es ≡ a ∷ fs) where
     left : M ≡ meet_all (delta B) c fs (meet (step (delta B) c a) (list_of w n))
     left = O.to_meet ∙ rw first
 
-    next_list : n' ≤ 1024 → list_of w' n' ≡ meet (step (delta B) c a) (list_of w n)
-    next_list l = G.is l ∙ ap (λ (z : Chain). meet (step (delta B) z a) (list_of w n)) O.of_p
-
-    pub meeting_next : n' ≤ 1024 → Meeting B p c M fs newest' earlier' w' n'
-    meeting_next l =
-        let e = next_list l in
-        let o : Opening whole (delta B) c p (list_of w' n') =
-        subst (λ (z : List Chain). Opening whole (delta B) c p z) (sym e)
-        (opening_meet (delta B) c p (list_of w n) O.opening a).0 in
-        let b = o.here in
-        let k = length_list w' n' in
-        let q : p < n' = omega arith in
-        record {
-          fit = G.fit l;
-          below = q;
-          of_p = sym (list_at w' n' p q) ∙ o.at;
-          opening = o;
-          to_meet = left ∙ ap (λ (z : List Chain). meet_all (delta B) c fs z) (sym e);
-        }
-
-    -- what had a place keeps it, and the chain that was met has one
-    pub place_kept : n' ≤ 1024 → {d : Chain} → HasPlace w n d → HasPlace w' n' d
-    place_kept l h =
-        let e = next_list l in
-        let d = step (delta B) c a in
-        let k = length_list w n in
-        let k' = length_list w' n' in
-        let m = meet-longer d (list_of w n) in
-        let s = ap length e in
-        let b = h.1 in
-        let i = h.0 in
-        let b' : i < n' = omega arith in (
-          i,
-          b',
-          sym (list_at w' n' i b') ∙ ap (λ (z : List Chain). get_or z i []) e ∙ meet_kept d (list_of w n) i (omega arith)
-              ∙ list_at w n i b ∙ h.2,
-        )
-
-    pub place_met : n' ≤ 1024 → HasPlace w' n' (step (delta B) c a)
-    place_met l =
-        mem_place w' n' (step (delta B) c a)
-        (subst (λ (z : List Chain). Memᴰ (step (delta B) c a) z) (sym (next_list l))
-        (opening_meet (delta B) c p (list_of w n) O.opening a).2)
-
-    pub meeting_over : 1024 < n' → Grown newest' earlier' w' M n'
+    pub meeting_over : 1024 < length (meet (step (delta B) (chain_of w p) a) (list_of w n)) → 1024 < length M
     meeting_over l =
         let g : 1024 < length (meet (step (delta B) c a) (list_of w n)) =
-        subst (λ (z : Chain). 1024 < length (meet (step (delta B) z a) (list_of w n))) O.of_p (G.over l) in
+        subst (λ (z : Chain). 1024 < length (meet (step (delta B) z a) (list_of w n))) O.of_p l in
         let k = meet_all-longer (delta B) c fs (meet (step (delta B) c a) (list_of w n)) in
         let e = ap length left in
-        record {
-          over = λ h. omega arith;
-          fit = λ h. absurd (let x : ⊥ = omega arith in x);
-          is = λ h. absurd (let x : ⊥ = omega arith in x);
-        }
+        omega arith
+
+    module _ {w' : Rows} {n' : ℕ} (G : Listed w' n' (meet (step (delta B) (chain_of w p) a) (list_of w n))) where
+      next_list : list_of w' n' ≡ meet (step (delta B) c a) (list_of w n)
+      next_list = G.is ∙ ap (λ (z : Chain). meet (step (delta B) z a) (list_of w n)) O.of_p
+
+      pub meeting_next : Meeting B p c M fs w' n'
+      meeting_next =
+          let e = next_list in
+          let o : Opening whole (delta B) c p (list_of w' n') =
+          subst (λ (z : List Chain). Opening whole (delta B) c p z) (sym e)
+          (opening_meet (delta B) c p (list_of w n) O.opening a).0 in
+          let b = o.here in
+          let k = length_list w' n' in
+          let q : p < n' = omega arith in
+          record {
+            below = q;
+            of_p = sym (list_at w' n' p q) ∙ o.at;
+            opening = o;
+            to_meet = left ∙ ap (λ (z : List Chain). meet_all (delta B) c fs z) (sym e);
+          }
+
+      -- what had a place keeps it, and the chain that was met has one
+      pub place_kept : {d : Chain} → HasPlace w n d → HasPlace w' n' d
+      place_kept h =
+          let e = next_list in
+          let d = step (delta B) c a in
+          let k = length_list w n in
+          let k' = length_list w' n' in
+          let m = meet-longer d (list_of w n) in
+          let s = ap length e in
+          let b = h.1 in
+          let i = h.0 in
+          let b' : i < n' = omega arith in (
+            i,
+            b',
+            sym (list_at w' n' i b') ∙ ap (λ (z : List Chain). get_or z i []) e ∙ meet_kept d (list_of w n) i (omega arith)
+                ∙ list_at w n i b ∙ h.2,
+          )
+
+      pub place_met : HasPlace w' n' (step (delta B) c a)
+      place_met =
+          mem_place w' n' (step (delta B) c a)
+          (subst (λ (z : List Chain). Memᴰ (step (delta B) c a) z) (sym next_list)
+          (opening_meet (delta B) c p (list_of w n) O.opening a).2)
 
 -- the places from p on are still to be opened; those below have t edges
-pub record Exploring (B : Book) (p t : ℕ) (newest earlier : List ℕ) (w : Rows) (n : ℕ) : Type 0 where
-  pub fit : Fit newest earlier w n
+pub record Exploring (B : Book) (p t : ℕ) (w : Rows) (n : ℕ) : Type 0 where
   pub most : p ≤ n
   pub opened_is : Opened (delta B) (outs B) p (list_of w n)
   pub to_grow : places (delta B) (outs B) 1024
@@ -215,62 +199,45 @@ pub record Exploring (B : Book) (p t : ℕ) (newest earlier : List ℕ) (w : Row
   pub edges : t ≡ first_edge (delta B) (outs B) (marks B) (list_of w n) p
   pub few : t ≤ 65536 * p
 
-pub exploring_start : (B : Book) {newest earlier : List ℕ} {w : Rows} → Fit newest earlier w 1
-    → Exploring B 0 0 newest earlier w 1
-exploring_start B {newest} {earlier} {w} F =
-    let e = list_one w in
+pub exploring_start : (B : Book) {w : Rows} {n : ℕ} → n ≡ 1 → Exploring B 0 0 w n
+exploring_start B {w} {n} s =
+    let e : list_of w n ≡ [] ∷ [] = rw s (list_one w) in
     record {
-      fit = F;
       most = omega arith;
       opened_is = subst (λ (z : List Chain). Opened (delta B) (outs B) 0 z) (sym e) start;
       to_grow = rw e;
-      edges = sym (first-zero (delta B) (outs B) (marks B) (list_of w 1));
+      edges = sym (first-zero (delta B) (outs B) (marks B) (list_of w n));
       few = omega arith;
     }
 
-module _ {B : Book} {p t : ℕ} {newest earlier : List ℕ} {w : Rows} {n : ℕ} (E : Exploring B p t newest earlier w n) where
-  pub exploring_end : n ≤ p → Explored B newest earlier w n t
+module _ {B : Book} {p t : ℕ} {w : Rows} {n : ℕ} (few-places : n ≤ 1024) (E : Exploring B p t w n) where
+  pub exploring_end : n ≤ p → AllFound B w n t
   exploring_end l =
       let k = length_list w n in
-      let s = E.fit.held.some_place in
       let m = E.most in
       let e : p ≡ n = omega arith in
       record {
-        over = λ h. absurd (let x : ⊥ = omega arith in x);
-        done = λ h. E.to_grow ∙ grow_end (delta B) (outs B) (1024 - p) p (list_of w n) (omega arith);
-        fit = λ h. E.fit;
-        edges = λ h. E.edges ∙ ap (λ (i : ℕ). first_edge (delta B) (outs B) (marks B) (list_of w n) i) e;
-        few = let f = E.few in let g = E.fit.held.few in omega arith;
+        all = E.to_grow ∙ grow_end (delta B) (outs B) (1024 - p) p (list_of w n) (omega arith);
+        edges = E.edges ∙ ap (λ (i : ℕ). first_edge (delta B) (outs B) (marks B) (list_of w n) i) e;
       }
 
-  module _ (l : p < n) {newest' earlier' : List ℕ} {w' : Rows} {n' : ℕ}
-      (G : Grown newest' earlier' w' (opened (delta B) (outs B) p (list_of w n)) n') where
+  module _ (l : p < n) where
     stepped : places (delta B) (outs B) 1024
         ≡ grow (delta B) (outs B) (1024 - p - 1) (ltb (p + 1) (length (opened (delta B) (outs B) p (list_of w n)))) (p + 1)
         (opened (delta B) (outs B) p (list_of w n))
     stepped =
         let k = length_list w n in
-        let f = E.fit.held.few in
         E.to_grow ∙ grow-step (delta B) (outs B) (1024 - p) p (list_of w n) (omega arith) (omega arith)
 
-    pub exploring_over : (t' : ℕ) → 1024 < n' → t' ≤ 65536 * 1024 → Explored B newest' earlier' w' 0 t'
-    exploring_over t' h few' =
-        let g = G.over h in
-        let f = E.fit.held.few in
-        record {
-          over = λ z.
-              stepped
-              ∙ grow_long (delta B) (outs B) (1024 - p - 1) (p + 1) (opened (delta B) (outs B) p (list_of w n)) (omega arith);
-          done = λ z. absurd (let x : ⊥ = omega arith in x);
-          fit = λ z. absurd (let x : ⊥ = omega arith in x);
-          edges = λ z. absurd (let x : ⊥ = omega arith in x);
-          few = few';
-        }
+    pub exploring_over : 1024 < length (opened (delta B) (outs B) p (list_of w n)) → places (delta B) (outs B) 1024 ≡ None
+    exploring_over g =
+        stepped ∙ grow_long (delta B) (outs B) (1024 - p - 1) (p + 1) (opened (delta B) (outs B) p (list_of w n)) (omega arith)
 
-    pub exploring_next : {m h : ℕ} → h ≡ get_or w.heads p 0 → m ≡ length (outs B h) → m < 65536 → n' ≤ 1024
-        → Exploring B (p + 1) (t + m) newest' earlier' w' n'
-    exploring_next {m} {h} eh em lm few' =
-        let e : opened (delta B) (outs B) p (list_of w n) ≡ list_of w' n' = sym (G.is few') in
+    -- h and m are what was read of the place p: its head, and the number of its edges
+    pub exploring_next : {w' : Rows} {n' : ℕ} → Held w n → {m h : ℕ} → h ≡ get_or w.heads p 0 → m ≡ length (outs B h)
+        → m < 65536 → Listed w' n' (opened (delta B) (outs B) p (list_of w n)) → Exploring B (p + 1) (t + m) w' n'
+    exploring_next {w'} {n'} H {m} {h} eh em lm G =
+        let e : opened (delta B) (outs B) p (list_of w n) ≡ list_of w' n' = sym G.is in
         let k = length_list w n in
         let k' = length_list w' n' in
         let c = get_or (list_of w n) p [] in
@@ -286,13 +253,12 @@ module _ {B : Book} {p t : ℕ} {newest earlier : List ℕ} {w : Rows} {n : ℕ}
         sym (meet_all_kept (delta B) c (outs B (head c)) (list_of w n) i (omega arith))
         ∙ ap (λ (z : List Chain). get_or z i []) e in
         let f : 1024 - p - 1 ≡ 1024 - (p + 1) = omega arith in
-        let at : head c ≡ h = ap head (list_at w n p l) ∙ head_of w n E.fit.held p ∙ sym eh in
+        let at : head c ≡ h = ap head (list_at w n p l) ∙ head_of w n H p ∙ sym eh in
         let count : length (outs B (head c)) ≡ m = ap (λ (z : ℕ). length (outs B z)) at ∙ sym em in
         let sums : first_edge (delta B) (outs B) (marks B) (list_of w' n') (p + 1) ≡ t + m =
         sym (first-same (delta B) (outs B) (marks B) (list_of w n) (list_of w' n') (p + 1) kept)
         ∙ first-suc (delta B) (outs B) (marks B) (list_of w n) p ∙ rw (count, ← E.edges) in
         record {
-          fit = G.fit few';
           most = omega arith;
           opened_is = o;
           to_grow =

@@ -1,17 +1,17 @@
 -- The edge records of a place are written from those of lower places. `Known`: what the image has for a walk over the
 -- places below p; `known_start`, `known_edges`, `known_kept`: it does have it. `Walking`: the walk down the fallbacks,
--- to what an event makes of the rest of a chain. `after_found`, `after-rest`: the place after an event. `numbered_here`,
--- `numbered_end`: the number of an edge. `edges_some`, `edges_none`, `edges_own`: the edges of a state in the book. `Rowing`: the row of place 0. Assumes nothing.
+-- to what an event makes of the rest of a chain. `after_either`: the place after an event. `edges_some`,
+-- `edges_none`, `edges_own`: the edges of a state in the book. `Rowing`: the row of place 0. Assumes nothing.
 use mathlib.Core.Path.{◌≡◌, refl, sym, ap, ◌∙◌, subst}
 use mathlib.Core.Logic.{◌≢◌}
 use mathlib.Core.Bool.{false}
-use mathlib.Core.Option.{none, some}
+use Rattle.std.specs.Prelude.{Option, None, Some, unwrap_or}
 use mathlib.Core.List.Memᴰ
 use mathlib.Core.List.{List, [], ◌∷◌}
 use Prim.Native.Nat.{ℕ, suc, ◌+◌, ◌*◌, ◌-◌, ◌/◌, ◌≤◌, ◌<◌}
 use native.Mathlib.Omega.{arith}
-use lib.ListN.{length, get_or, set, replicate, length-set}
-use lib.Seq.{get_or-set_same, get_or-set_other}
+use lib.ListN.{length, get_or, drop, set, replicate, length-set}
+use lib.Seq.{sets, length-sets, get_or-set_same, get_or-set_other}
 use borrow.Author.Tests.{lt-ltb}
 use Rattle.wire.specs.Little.{le16_at}
 use Rattle.meaning.specs.Chain.{Chain, live, IsChain, has, put, step, head}
@@ -30,29 +30,15 @@ use Rattle.book.proofs.Model.{events_at_lem, lead_delta}
 use Rattle.book.proofs.Searches.{look_some, look_finds}
 use Rattle.image.specs.Form.{form1}
 use Rattle.compile.specs.Work.{Rows, chain_of, list_of}
-use Rattle.compile.specs.Explore.{whole, rest_after, Ready, IsPlace, Finds}
+use Rattle.compile.specs.Explore.{whole, rest_after, Ready, IsPlace, Finds, FoundAt, NotFound}
 use Rattle.compile.specs.Bytes.{edge_record, spread, place_of, places_below, edges_for, edges_of, edges_below}
-use Rattle.compile.specs.Write.{Numbered, EdgesAre, Wrote, edge_end, Known, Starts, EdgeNumber, RestIs}
+use Rattle.compile.specs.Write.{Numbered, EdgesAre, edge_end, Known, Walkable, Starts, RestIs}
 use Rattle.compile.proofs.Rows.{length_list, list_at, chain-zero, get_or-zeros}
 use Rattle.compile.proofs.Seek.{head_of, rest_start, rest-next, step_of, step_some}
 use Rattle.compile.proofs.Leading.{own}
 use Rattle.compile.proofs.Written.{sets_below}
-use Rattle.compile.proofs.Records.{Owning, Edging, length-places, length_edges, edge_bytes, numbers}
-use Rattle.compile.proofs.Records.{wrote-length}
+use Rattle.compile.proofs.Records.{Owning, Edging, edging_room, length-places, length_edges, edge_bytes, numbers}
 use Rattle.compile.proofs.Back.{Stand, first-number, number_back, place_at_lem, edge_at_lem, wrote-stand}
-
--- ---- the number of the edge with an event
-pub numbered_here : {t : List ℕ} {S a first count j left : ℕ} → Narrowed t S a first count j left → 0 < left → (f : ℕ)
-    → f ≡ (edge_record_at t S (j + left / 2)).event → f ≡ a → EdgeNumber t S first count a (j + left / 2 - first)
-numbered_here {t} {S} {a} {first} {count} {j} {left} N some_left f e h =
-    let l = N.low in
-    let u = N.high in
-    let z : first + (j + left / 2 - first) ≡ j + left / 2 = omega arith in
-    record { hit = λ b. rw z (sym e ∙ h); miss = λ b. absurd (let w : ⊥ = omega arith in w) }
-
-pub numbered_end : {t : List ℕ} {S a first count j left : ℕ} → Narrowed t S a first count j left → left ≡ 0
-    → EdgeNumber t S first count a count
-numbered_end N z = record { hit = λ b. absurd (let w : ⊥ = omega arith in w); miss = λ b. sym (narrowed_end N z) }
 
 -- ---- bytes that stay
 abbrev pub Same : ℕ → List ℕ → List ℕ → Type 0
@@ -62,10 +48,11 @@ same16 : {at : ℕ} (d d' : List ℕ) → Same at d d' → (i : ℕ) → i + 1 <
 same16 d d' S i l = let a = S i (omega arith) in let b = S (i + 1) l in omega arith
 
 -- while the edge records of a place are written from at on, the bytes below them stay
-pub owning_same : {B : Book} {w : Rows} {n p at left at' : ℕ} {d es d' : List ℕ} → Owning B w n p d at es left at' d'
-    → at ≤ at' → Same at d d'
-owning_same {B} {w} {n} {p} {at} {at' = at'} {d = d} {es = es} {d' = d'} O l i k =
-    sym (sets_below d' at' (spread form1.edge_bytes (edges_for B (list_of w n) (chain_of w p) es)) i (omega arith))
+pub owning_same : {B : Book} {w : Rows} {n p at m : ℕ} {d d' : List ℕ} → Owning B w n p d at m d' → Same at d d'
+owning_same {B} {w} {n} {p} {at} {m} {d} {d'} O i k =
+    sym (sets_below d' (at + 4 * m)
+    (spread form1.edge_bytes (edges_for B (list_of w n) (chain_of w p) (drop m (outs B (get_or w.heads p 0))))) i
+    (omega arith))
     ∙ ap (λ (z : List ℕ). get_or z i 0) (sym O.so_far)
     ∙ sets_below d at (spread form1.edge_bytes (edges_of B (list_of w n) p)) i k
 
@@ -96,26 +83,36 @@ module _ {B : Book} {w : Rows} {n : ℕ} (N : Numbered B w n) where
       let up = first_edge_mono (delta B) (outs B) (marks B) L (suc g) p (omega arith) in
       omega arith
 
-  pub known_start : {d d' : List ℕ} {at t : ℕ} → EdgesAre B w n t → 14 * n + 4 * t ≤ length d
-      → Wrote d 0 (spread form1.place_bytes (places_below B L n)) d' at → Known B w n 0 d'
+  -- no place has more edges than the image; h is what was read: the head of g
+  pub own_few : {g h i a : ℕ} → g < n → h ≡ get_or w.heads g 0 → (i < length (outs B h)) × (get_or (outs B h) i 0 ≡ a)
+      → i < 65536
+  own_few {g} {i = i} l e k =
+      let s : i < length (events g) = rw (← e) k.0 in
+      let b = own_below g n i l (omega arith) s in
+      let few = few_firsts n (omega arith) in
+      omega arith
+
+  pub known_start : (d : List ℕ) {d' : List ℕ} {t : ℕ} → EdgesAre B w n t → 14 * n + 4 * t ≤ length d
+      → d' ≡ sets d 0 (spread form1.place_bytes (places_below B L n)) → Known B w n 0 d'
   unfolding place_of
-  known_start {d} {d'} e room W =
+  known_start d {d'} e room W =
       let len = length-places B L n in
       record {
         first = λ g l.
             let few = few_firsts g (omega arith) in
             first-number
             (subst (λ z. Stand d' (14 * g) 14 (form1.place_bytes z)) (place_at_lem B L n g (place_of B L g) l)
-            (wrote-stand form1.place_bytes 14 (λ r. refl) (places_below B L n) (place_of B L g) W (omega arith) g
+            (wrote-stand form1.place_bytes 14 (λ r. refl) (places_below B L n) (place_of B L g) d 0 W (omega arith) g
             (14 * g) (omega arith) (omega arith)))
             (firsts g) (omega arith) refl refl (omega arith);
         target = λ g i l. absurd (let z : ⊥ = omega arith in z);
       }
 
   -- room for the image, once the place records are written
-  pub room_left : {d d' : List ℕ} {at t : ℕ} → EdgesAre B w n t → 14 * n + 4 * t ≤ length d
-      → Wrote d 0 (spread form1.place_bytes (places_below B L n)) d' at → edge_end B w n n ≤ length d'
-  room_left e room W = let l = wrote-length W in omega arith
+  pub room_left : (d : List ℕ) {d' : List ℕ} {t : ℕ} → EdgesAre B w n t → 14 * n + 4 * t ≤ length d
+      → d' ≡ sets d 0 (spread form1.place_bytes (places_below B L n)) → edge_end B w n n ≤ length d'
+  room_left d e room W =
+      let l = ap length W ∙ length-sets d 0 (spread form1.place_bytes (places_below B L n)) in omega arith
 
   pub known_kept : {p at : ℕ} {d d' : List ℕ} → Known B w n p d → p ≤ n → edge_end B w n p ≤ at → Same at d d'
       → Known B w n p d'
@@ -127,16 +124,15 @@ module _ {B : Book} {w : Rows} {n : ℕ} (N : Numbered B w n) where
             same16 d d' S (edge_end B w n g + 4 * i + 2) (omega arith) ∙ K.target g i l k;
       }
 
-  pub known_edges : {at p at' : ℕ} {d d' : List ℕ} → Known B w n 0 d → Edging B w n d at p at' d' → at ≡ 14 * n
+  pub known_edges : {p r : ℕ} {d d' : List ℕ} → Known B w n 0 d → Edging B w n d p r d' → p ≤ n
       → edge_end B w n n ≤ length d → Known B w n p d'
-  known_edges {at} {p} {at'} {d} {d'} K E e room =
+  known_edges {p} {r = r₀} {d} {d'} K E m room =
       let es = spread form1.edge_bytes (edges_below B L p) in
-      let S : Same at d d' =
-      λ i l. ap (λ (z : List ℕ). get_or z i 0) E.so_far.is ∙ sets_below d at es i l in
+      let S : Same (14 * n) d d' =
+      λ i l. ap (λ (z : List ℕ). get_or z i 0) E.so_far.is ∙ sets_below d (14 * n) es i l in
       record {
         first = λ g l. same16 d d' S (14 * g) (omega arith) ∙ K.first g l;
         target = λ g i l k.
-            let m = E.most in
             let b = own_below g p i l m k in
             let up = first_edge_mono (delta B) (outs B) (marks B) L p n m in
             let len = length_edges B L p in
@@ -153,13 +149,19 @@ module _ {B : Book} {w : Rows} {n : ℕ} (N : Numbered B w n) where
             (number_step (delta B) L (numbers N) g a (omega arith)).0 in
             number_back
             (subst (λ z. Stand d' (edge_end B w n g + 4 * i) 4 (form1.edge_bytes z)) is
-            (wrote-stand form1.edge_bytes 4 (λ y. refl) (edges_below B L p) r E.so_far (omega arith) (firsts g + i)
+            (wrote-stand form1.edge_bytes 4 (λ y. refl) (edges_below B L p) r d (14 * n) E.so_far.is (omega arith) (firsts g + i)
             (edge_end B w n g + 4 * i) (omega arith) (omega arith)))
             2 (number L (step (delta B) (chain_of w g) a)) (omega arith) refl refl (omega arith);
       }
 
-  pub edges_reach : {at p at' : ℕ} {d d' : List ℕ} → Edging B w n d at p at' d' → at ≡ 14 * n → edge_end B w n p ≤ at'
-  edges_reach {p = p} E e = let a = E.so_far.next in let b = edge_bytes B L p in omega arith
+  -- what the writing of the edge records of the place p asks, when those of the places below p are written
+  pub own_asks : {p r : ℕ} {row d d' : List ℕ} → Known B w n 0 d → edge_end B w n n ≤ length d → Edging B w n d p r d'
+      → p < n → (0 < p → Starts B w n row)
+      → Walkable B w n p row d' × (edge_end B w n p ≤ r) × (r + 4 * length (outs B (get_or w.heads p 0)) ≤ 30720)
+  own_asks {p} K room E l S =
+      let a = E.so_far.next in
+      let b = edge_bytes B L p in
+      (record { below = l; known = known_edges K E (omega arith) room; starts = S }, omega arith, edging_room N E l)
 
   -- edge i of the place g leads to the place that is read
   known_place : {p g i a r : ℕ} {d : List ℕ} → Known B w n p d → p ≤ n → g < p → i < length (events g)
@@ -179,14 +181,6 @@ module _ {B : Book} {w : Rows} {n : ℕ} (N : Numbered B w n) where
         sym (list_at w n r below) ∙ ap (λ (z : ℕ). get_or L z []) is ∙ s.1
             ∙ ap (λ (z : Chain). step (delta B) z a) (list_at w n g (omega arith)),
       )
-
--- ---- the numbers of a place that the rows hold
-module _ {B : Book} {w : Rows} {n : ℕ} (N : Numbered B w n) where
-  pub place_low : {p g : ℕ} → p < n → g < p → g < 1024
-  place_low l m = let k = N.held.few in omega arith
-
-  pub head_low : (p : ℕ) {h : ℕ} → h ≡ get_or w.heads p 0 → h < 512
-  head_low p e = let k = N.held.small p in omega arith
 
 -- ---- what the event a makes of the rest of the chain of p is what it makes of the chain of g
 pub record Walking (B : Book) (w : Rows) (p a g : ℕ) : Type 0 where
@@ -218,11 +212,11 @@ module _ {B : Book} {w : Rows} {n : ℕ} (N : Numbered B w n) {p a g : ℕ} (F :
       }
 
   module _ {h : ℕ} (eh : h ≡ get_or w.heads g 0) where
-    pub walking_on : {f : ℕ} → g ≢ 0 → f ≡ get_or w.fallbacks g 0 → delta B h a ≡ none → Walking B w p a f
+    pub walking_on : {f : ℕ} → g ≢ 0 → f ≡ get_or w.fallbacks g 0 → delta B h a ≡ None → Walking B w p a f
     walking_on {f} z e m =
         let l = F.low in
         let d = N.held.fallbacks_down g (omega arith) in
-        let m' : delta B (get_or w.heads g 0) a ≡ none = ap (λ (y : ℕ). delta B y a) (sym eh) ∙ m in
+        let m' : delta B (get_or w.heads g 0) a ≡ None = ap (λ (y : ℕ). delta B y a) (sym eh) ∙ m in
         record {
           low = omega arith;
           same =
@@ -251,30 +245,32 @@ head_once {B} {w} {n} {k} {q} {r} {c} N l e =
     (λ h. absurd (I.once.0 (has-In q c (I.reaches q r (Memᴰ.head refl)).0 h)))
     (λ h. h)
 
-module _ {B : Book} {w : Rows} {n p a q l r k : ℕ} (N : Numbered B w n)
-    (e : delta B (get_or w.heads p 0) a ≡ some q) (R : RestIs B w n p a r) (g : l ≡ get_or w.levels p 0)
-    (D : Finds whole w n q (l + 1) r k) where
-  after-put : step (delta B) (chain_of w p) a ≡ put (some q) (l + 1) (chain_of w r)
+module _ {B : Book} {w : Rows} {n p a q l r : ℕ} (N : Numbered B w n)
+    (e : delta B (get_or w.heads p 0) a ≡ Some q) (R : RestIs B w n p a r) (g : l ≡ get_or w.levels p 0) where
+  after-put : step (delta B) (chain_of w p) a ≡ put (Some q) (l + 1) (chain_of w r)
   after-put =
       step_some w n N.held (delta B) a p q e
-      ∙ ap (λ (y : ℕ). put (some q) (y + 1) (rest_after (delta B) (chain_of w p) a)) (sym g)
-      ∙ ap (λ (z : Chain). put (some q) (l + 1) z) (sym R.is)
+      ∙ ap (λ (y : ℕ). put (Some q) (y + 1) (rest_after (delta B) (chain_of w p) a)) (sym g)
+      ∙ ap (λ (z : Chain). put (Some q) (l + 1) z) (sym R.is)
 
-  pub after_found : k ≢ 0 → IsPlace whole w n (step (delta B) (chain_of w p) a) k
-  after_found z =
-      let c = D.hit (omega arith) in
-      let h = head_once N D.below c in
-      record { below = D.below; is = λ i m s. c ∙ sym (after-put ∙ rw h) }
+  after_found : {k : ℕ} → FoundAt whole w n q (l + 1) r k → IsPlace whole w n (step (delta B) (chain_of w p) a) k
+  after_found D =
+      let h = head_once N D.below D.is in record { below = D.below; is = λ i m s. D.is ∙ sym (after-put ∙ rw h) }
 
   -- what has a place has q in the rest, where no place has q in front of it
-  pub after-rest : k ≡ 0 → IsPlace whole w n (step (delta B) (chain_of w p) a) r
-  after-rest z =
+  after-rest : NotFound whole w n q (l + 1) r → IsPlace whole w n (step (delta B) (chain_of w p) a) r
+  after-rest D =
       record {
         below = R.below;
         is = λ i m s.
             by_bool (has q (chain_of w r)) (λ h. sym (after-put ∙ rw h))
-            (λ h. absurd (D.miss z i m (s ∙ after-put ∙ rw h)));
+            (λ h. absurd (D.no i m (s ∙ after-put ∙ rw h)));
       }
+
+  pub after_either : (o : Option ℕ) → Finds whole w n q (l + 1) r o
+      → IsPlace whole w n (step (delta B) (chain_of w p) a) (unwrap_or o r)
+  after_either None D = after-rest D
+  after_either (Some k) D = after_found D
 
 -- ---- the edges of the state h in the book: m of them, from edge j on
 module _ {t : List ℕ} {S : ℕ} {first : List ℕ} (R : Ready t S first) {h m j : ℕ} (low : h < 512)
@@ -293,21 +289,31 @@ module _ {t : List ℕ} {S : ℕ} {first : List ℕ} (R : Ready t S first) {h m 
   edges_event {a} {i} l e =
       (omega arith, ap (λ (es : List ℕ). get_or es i 0) (sym (own R h em ej)) ∙ events_at_lem t S m j i l ∙ e)
 
-  module _ {a i : ℕ} (E : EdgeNumber t S j m a i) where
-    pub edges_none : m ≤ i → delta (table_book t S) h a ≡ none
-    edges_none l = edges_lead a ∙ E.miss l
+  pub edges_none : (a low : ℕ) {left : ℕ} → Narrowed t S a j m (j + low) left → left ≡ 0 → delta (table_book t S) h a ≡ None
+  edges_none a low N z = edges_lead a ∙ sym (narrowed_end N z)
 
-    pub edges_some : i < m → (i < length (outs (table_book t S) h)) × (get_or (outs (table_book t S) h) i 0 ≡ a)
-    edges_some l = edges_event l (E.hit l)
+  pub edges_some : (low : ℕ) {a left f : ℕ} → Narrowed t S a j m (j + low) left → 0 < left
+      → f ≡ (edge_record_at t S (j + low + left / 2)).event → f ≡ a
+      → (low + left / 2 < length (outs (table_book t S) h)) × (get_or (outs (table_book t S) h) (low + left / 2) 0 ≡ a)
+  edges_some low {left = left} N some_left e g =
+      let l = N.low in
+      let u = N.high in
+      let z : j + (low + left / 2) ≡ j + low + left / 2 = omega arith in
+      edges_event (omega arith) (rw z (sym e ∙ g))
 
-  -- each of them leads where its record says
-  pub edges_own : {k g : ℕ} {e : EdgeRecord} → h ≡ g → j ≤ k → k < j + m → e ≡ edge_record_at t S k
-      → delta (table_book t S) g e.event ≡ some e.target
-  edges_own {k} {g} {e} eh l u i =
-      let rise = edges_rise in
-      ap (λ (y : ℕ). delta (table_book t S) y e.event) (sym eh) ∙ edges_lead e.event
-      ∙ rw i (look_finds t S (edge_record_at t S k).event m j k l u refl
-      (λ x n v s. let b = rise x k n v u in omega arith))
+  -- edge i of them, of which e was read; h is the state g
+  module _ {i g : ℕ} {e : EdgeRecord} (eh : h ≡ g) (l : i < m) (is : e ≡ edge_record_at t S (j + i)) where
+    pub edges_at : (i < length (outs (table_book t S) g)) × (get_or (outs (table_book t S) g) i 0 ≡ e.event)
+    edges_at =
+        rw (← eh) (edges_event l (sym (ap (λ (r : EdgeRecord). r.event) is)))
+
+    -- it leads where its record says
+    pub edges_own : delta (table_book t S) g e.event ≡ Some e.target
+    edges_own =
+        let rise = edges_rise in
+        ap (λ (y : ℕ). delta (table_book t S) y e.event) (sym eh) ∙ edges_lead e.event
+        ∙ rw is (look_finds t S (edge_record_at t S (j + i)).event m j (j + i) (omega arith) (omega arith) refl
+        (λ x n v s. let b = rise x (j + i) n v (omega arith) in omega arith))
 
 -- ---- the row of place 0
 -- the target of edge k of place 0, as it is written
@@ -329,29 +335,28 @@ rowing_start t S j target row e =
       miss = λ a h. ap (λ (z : List ℕ). get_or z a 0) e ∙ get_or-zeros 256 a;
     }
 
-pub rowing_next : {t : List ℕ} {S j i m v : ℕ} {target : ℕ → ℕ} {row row' : List ℕ} {e : EdgeRecord}
-    → Rowing t S j target i row → RiseFrom t S m j → i < m → e ≡ edge_record_at t S (j + i) → e.event < 256
-    → v ≡ target i → row' ≡ set row e.event v → Rowing t S j target (i + 1) row'
-rowing_next {t} {S} {j} {i} {m} {v} {target} {row} {row'} {e} R up l g small f s =
+pub rowing_next : {t : List ℕ} {S j i m e v : ℕ} {target : ℕ → ℕ} {row row' : List ℕ} → Rowing t S j target i row
+    → RiseFrom t S m j → i < m → e ≡ (edge_record_at t S (j + i)).event → e < 256 → v ≡ target i → row' ≡ set row e v
+    → Rowing t S j target (i + 1) row'
+rowing_next {t} {S} {j} {i} {m} {e} {v} {target} {row} {row'} R up l ev small f s =
     let n = R.size in
-    let ev : e.event ≡ (edge_record_at t S (j + i)).event = ap (λ (r : EdgeRecord). r.event) g in
-    let at : (a : ℕ) → get_or row' a 0 ≡ get_or (set row e.event v) a 0 = λ a. ap (λ (z : List ℕ). get_or z a 0) s in
+    let at : (a : ℕ) → get_or row' a 0 ≡ get_or (set row e v) a 0 = λ a. ap (λ (z : List ℕ). get_or z a 0) s in
     record {
-      size = ap length s ∙ length-set row e.event v ∙ n;
+      size = ap length s ∙ length-set row e v ∙ n;
       hit = λ k b.
           by_eq k i
           (λ z.
-          let y : (edge_record_at t S (j + k)).event ≡ e.event =
+          let y : (edge_record_at t S (j + k)).event ≡ e =
           ap (λ (x : ℕ). (edge_record_at t S (j + x)).event) z ∙ sym ev in
-          at (edge_record_at t S (j + k)).event ∙ ap (λ (x : ℕ). get_or (set row e.event v) x 0) y
-          ∙ get_or-set_same row e.event v 0 (omega arith) ∙ f ∙ ap target (sym z))
+          at (edge_record_at t S (j + k)).event ∙ ap (λ (x : ℕ). get_or (set row e v) x 0) y
+          ∙ get_or-set_same row e v 0 (omega arith) ∙ f ∙ ap target (sym z))
           (λ z.
           let u = up (j + k) (j + i) (omega arith) (omega arith) (omega arith) in
           at (edge_record_at t S (j + k)).event
-          ∙ get_or-set_other row e.event (edge_record_at t S (j + k)).event v 0 (omega arith)
+          ∙ get_or-set_other row e (edge_record_at t S (j + k)).event v 0 (omega arith)
           ∙ R.hit k (omega arith));
       miss = λ a h.
-          at a ∙ get_or-set_other row e.event a v 0 (λ z. h i (omega arith) (sym ev ∙ sym z))
+          at a ∙ get_or-set_other row e a v 0 (λ z. h i (omega arith) (sym ev ∙ sym z))
           ∙ R.miss a (λ k b. h k (omega arith));
     }
 
@@ -365,10 +370,10 @@ module _ {t : List ℕ} {S : ℕ} {first : List ℕ} (R : Ready t S first) {w : 
   abbrev Entry : Type 0
   Entry = (get_or row a 0 < n) × (chain_of w (get_or row a 0) ≡ step (delta B) [] a)
 
-  row_none : look (edges_from t S m j) a ≡ none → Entry
+  row_none : look (edges_from t S m j) a ≡ None → Entry
   row_none e =
       let rise = edges_rise R {h = 0} (omega arith) em ej in
-      let led : delta B 0 a ≡ none = edges_lead R {h = 0} (omega arith) em ej a ∙ e in
+      let led : delta B 0 a ≡ None = edges_lead R {h = 0} (omega arith) em ej a ∙ e in
       let z : get_or row a 0 ≡ 0 =
       W.miss a
       (λ k b c.
@@ -378,7 +383,7 @@ module _ {t : List ℕ} {S : ℕ} {first : List ℕ} (R : Ready t S first) {w : 
       let some_place = N.held.some_place in
       (omega arith, ap (λ (y : ℕ). chain_of w y) z ∙ chain-zero w ∙ sym (rw led))
 
-  row_some : (q : ℕ) → look (edges_from t S m j) a ≡ some q → Entry
+  row_some : (q : ℕ) → look (edges_from t S m j) a ≡ Some q → Entry
   row_some q e =
       let x = look_some t S a m j q e in
       let low = x.1 in

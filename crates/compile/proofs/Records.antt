@@ -4,10 +4,10 @@
 use mathlib.Core.Path.{◌≡◌, refl, sym, ap, ◌∙◌, subst}
 use mathlib.Core.Logic.{◌≢◌}
 use mathlib.Core.List.{List, [], ◌∷◌, ◌++◌}
-use Prim.Native.Nat.{ℕ, zero, suc, ◌+◌, ◌*◌, ◌-◌, ◌≤◌, ◌<◌}
+use Prim.Native.Nat.{ℕ, zero, suc, ◌+◌, ◌*◌, ◌≤◌, ◌<◌}
 use native.Mathlib.Omega.{arith}
-use lib.ListN.{length, get_or, length-append, length-map}
-use lib.Seq.{sets, length-sets}
+use lib.ListN.{length, get_or, drop, length-append, length-map}
+use lib.Seq.{sets, drop-cons, drop-length}
 use borrow.Author.Tests.{eq-eqb, ne_eqb}
 use Rattle.wire.proofs.Sets.{sets_then}
 use Rattle.meaning.specs.Chain.{Chain, step, head, rest}
@@ -103,68 +103,28 @@ module _ {B : Book} {w : Rows} (d : Down w.fallbacks) {o p : ℕ} (K : Linking B
         record { low = omega arith; same = K.same ∙ rw (c, mark_at, eq-eqb m 0 n, ← i) }
 
 -- ---- what holds while the records are written: d are the bytes at first, d' those now
-pub record Placing (B : Book) (w : Rows) (n : ℕ) (d : List ℕ) (p at e : ℕ) (d' : List ℕ) : Type 0 where
-  pub most : p ≤ n
-  pub ends : at ≡ 14 * p
+-- the records of the places below p, which have e edges
+pub record Placing (B : Book) (w : Rows) (n : ℕ) (d : List ℕ) (p e : ℕ) (d' : List ℕ) : Type 0 where
   pub edges : e ≡ first_edge (delta B) (outs B) (marks B) (list_of w n) p
   pub so_far : d' ≡ sets d 0 (spread form1.place_bytes (places_below B (list_of w n) p))
 
--- the edge records of the place p, written from at on; those of the events es are left
-pub record Owning (B : Book) (w : Rows) (n p : ℕ) (d : List ℕ) (at : ℕ) (es : List ℕ) (left at' : ℕ) (d' : List ℕ)
-    : Type 0 where
+-- the records of i of the edges of the place p, written from at on
+pub record Owning (B : Book) (w : Rows) (n p : ℕ) (d : List ℕ) (at i : ℕ) (d' : List ℕ) : Type 0 where
   pub so_far : sets d at (spread form1.edge_bytes (edges_of B (list_of w n) p))
-      ≡ sets d' at' (spread form1.edge_bytes (edges_for B (list_of w n) (chain_of w p) es))
-  pub ends : at' + 4 * left ≡ at + 4 * length (outs B (get_or w.heads p 0))
+      ≡ sets d' (at + 4 * i)
+      (spread form1.edge_bytes (edges_for B (list_of w n) (chain_of w p) (drop i (outs B (get_or w.heads p 0)))))
 
-pub record Edging (B : Book) (w : Rows) (n : ℕ) (d : List ℕ) (at p at' : ℕ) (d' : List ℕ) : Type 0 where
-  pub most : p ≤ n
-  pub so_far : Wrote d at (spread form1.edge_bytes (edges_below B (list_of w n) p)) d' at'
+-- the records of the edges of the places below p, which end at r
+pub record Edging (B : Book) (w : Rows) (n : ℕ) (d : List ℕ) (p r : ℕ) (d' : List ℕ) : Type 0 where
+  pub so_far : Wrote d (14 * n) (spread form1.edge_bytes (edges_below B (list_of w n) p)) d' r
 
--- what was so when the loop began, with the edge records of place 0 written, is so with those of the places below p
-abbrev pub EdgingOn : Book → Rows → ℕ → ℕ → List ℕ → ℕ → ℕ → List ℕ → Type 0
-EdgingOn B w n at₀ d₀ p at d' =
-    (d : List ℕ) (o : ℕ) → Edging B w n d o 1 at₀ d₀ → Edging B w n d o p at d'
-
--- the memory keeps its length
-pub wrote-length : {d bs d' : List ℕ} {at r : ℕ} → Wrote d at bs d' r → length d' ≡ length d
-wrote-length {d} {bs} {d'} {at} W = ap length W.is ∙ length-sets d at bs
-
-pub placing_length : {B : Book} {w : Rows} {n p at e : ℕ} {d d' : List ℕ} → Placing B w n d p at e d' → length d' ≡ length d
-placing_length {B} {w} {n} {p} {d = d} P =
-    ap length P.so_far ∙ length-sets d 0 (spread form1.place_bytes (places_below B (list_of w n) p))
-
-pub owning_length : {B : Book} {w : Rows} {n p at left at' : ℕ} {d es d' : List ℕ} → Owning B w n p d at es left at' d'
-    → length d' ≡ length d
-owning_length {B} {w} {n} {p} {at} {at' = at'} {d = d} {es = es} {d' = d'} O =
-    sym (sym (length-sets d at (spread form1.edge_bytes (edges_of B (list_of w n) p)))
-    ∙ ap length O.so_far ∙ length-sets d' at' (spread form1.edge_bytes (edges_for B (list_of w n) (chain_of w p) es)))
-
-pub placing_start : (B : Book) (w : Rows) (n : ℕ) (d : List ℕ) → Placing B w n d 0 0 0 d
+pub placing_start : (B : Book) (w : Rows) (n : ℕ) (d : List ℕ) → Placing B w n d 0 0 d
 unfolding places_below first_edge
-placing_start B w n d = record { most = omega arith; ends = refl; edges = refl; so_far = refl }
+placing_start B w n d = record { edges = refl; so_far = refl }
 
-pub placing_end : {B : Book} {w : Rows} {n p at e : ℕ} {d d' : List ℕ} → Placing B w n d p at e d' → n ≤ p
-    → Wrote d 0 (spread form1.place_bytes (places_below B (list_of w n) n)) d' at
-placing_end {B} {w} {n} {p} {at} {e} {d} {d'} P l =
-    let m = P.most in
-    let z : p ≡ n = omega arith in
-    let a = P.ends in
-    let b = place_bytes B (list_of w n) n in
-    record {
-      is = P.so_far ∙ ap (λ (k : ℕ). sets d 0 (spread form1.place_bytes (places_below B (list_of w n) k))) z;
-      next = omega arith;
-    }
-
-pub edging_start : (B : Book) (w : Rows) (n : ℕ) (d : List ℕ) (at : ℕ) → Edging B w n d at 0 at d
+pub edging_start : (B : Book) (w : Rows) (n : ℕ) (d : List ℕ) → Edging B w n d 0 (14 * n) d
 unfolding edges_below
-edging_start B w n d at = record { most = omega arith; so_far = wrote_none d at }
-
-pub edging_end : {B : Book} {w : Rows} {n p at at' : ℕ} {d d' : List ℕ} → Edging B w n d at p at' d' → n ≤ p
-    → Wrote d at (spread form1.edge_bytes (edges_below B (list_of w n) n)) d' at'
-edging_end {B} {w} {n} {p} {at} {at'} {d} {d'} E l =
-    let m = E.most in
-    let z : p ≡ n = omega arith in
-    subst (λ (k : ℕ). Wrote d at (spread form1.edge_bytes (edges_below B (list_of w n) k)) d' at') z E.so_far
+edging_start B w n d = record { so_far = wrote_none d (14 * n) }
 
 -- ---- the arrays and the model
 module _ {B : Book} {w : Rows} {n : ℕ} (N : Numbered B w n) where
@@ -200,11 +160,11 @@ module _ {B : Book} {w : Rows} {n : ℕ} (N : Numbered B w n) where
       let lv = level_of w n N.held p in
       rw (at, hd, lv, fallback_of p below, lnk, e1, e3, e4, e5, e6, e2)
 
-  pub placing_next : {p at e m f l h k a : ℕ} {d d' d'' : List ℕ} → Placing B w n d p at e d' → p < n
-      → h ≡ get_or w.heads p 0 → m ≡ length (outs B h) → f ≡ get_or w.fallbacks p 0 → l ≡ get_or w.levels p 0 → LinkIs B w p k → a ≡ marks B h
-      → d'' ≡ sets d' at (form1.place_bytes (place_record e m f l h k a)) → Placing B w n d (p + 1) (at + 14) (e + m) d''
-  placing_next {p} {at} {e} {m} {f} {l} {h} {k} {a} {d} {d'} P below e2 e3 e4 e5 K e6 g =
-      let ends = P.ends in
+  pub placing_next : {p e m f l h k a : ℕ} {d d' d'' : List ℕ} → Placing B w n d p e d' → p < n
+      → h ≡ get_or w.heads p 0 → m ≡ length (outs B h) → f ≡ get_or w.fallbacks p 0 → l ≡ get_or w.levels p 0
+      → LinkIs B w p k → a ≡ marks B h
+      → d'' ≡ sets d' (14 * p) (form1.place_bytes (place_record e m f l h k a)) → Placing B w n d (p + 1) (e + m) d''
+  placing_next {p} {e} {m} {f} {l} {h} {k} {a} {d} {d'} P below e2 e3 e4 e5 K e6 g =
       let L = list_of w n in
       let old = spread form1.place_bytes (places_below B L p) in
       let len = place_bytes B L p in
@@ -214,34 +174,29 @@ module _ {B : Book} {w : Rows} {n : ℕ} (N : Numbered B w n) where
       ∙ spread_snoc form1.place_bytes (places_below B L p) (place_of B L p) in
       let hd : head (get_or L p []) ≡ h = ap head (list_at w n p below) ∙ head_of w n N.held p ∙ sym e2 in
       record {
-        most = omega arith;
-        ends = omega arith;
         edges = sym (first-suc B L p ∙ rw (hd, ← e3, ← P.edges));
         so_far =
-            g ∙ ap (λ (z : List ℕ). sets z at (form1.place_bytes (place_record e m f l h k a))) P.so_far
-            ∙ ap (λ (z : PlaceRecord). sets (sets d 0 old) at (form1.place_bytes z)) r
-            ∙ sym (sets_then d 0 at old (form1.place_bytes (place_of B L p)) (omega arith))
+            g ∙ ap (λ (z : List ℕ). sets z (14 * p) (form1.place_bytes (place_record e m f l h k a))) P.so_far
+            ∙ ap (λ (z : PlaceRecord). sets (sets d 0 old) (14 * p) (form1.place_bytes z)) r
+            ∙ sym (sets_then d 0 (14 * p) old (form1.place_bytes (place_of B L p)) (omega arith))
             ∙ ap (λ (z : List ℕ). sets d 0 z) (sym all);
       }
 
-  pub placing_few : {p at e : ℕ} {d d' : List ℕ} → Placing B w n d p at e d' → e ≤ 4096
-  placing_few {p} P =
-      let m = P.most in
+  pub placing_few : {p e : ℕ} {d d' : List ℕ} → Placing B w n d p e d' → p ≤ n → e ≤ 4096
+  placing_few {p} P m =
       let e = P.edges in
       let all = N.few_edges in
-      let up = first_edge_mono (delta B) (outs B) (marks B) (list_of w n) p n (omega arith) in
+      let up = first_edge_mono (delta B) (outs B) (marks B) (list_of w n) p n m in
       omega arith
 
   -- ---- the edge records of one place
   at_place : (p : ℕ) → p < n → edges_of B (list_of w n) p ≡ edges_for B (list_of w n) (chain_of w p) (outs B (get_or w.heads p 0))
   at_place p l = rw (list_at w n p l, head_of w n N.held p)
 
-  pub owning_start : {p at m : ℕ} {es d : List ℕ} → p < n → es ≡ outs B (get_or w.heads p 0)
-      → m ≡ length (outs B (get_or w.heads p 0)) → Owning B w n p d at es m at d
-  owning_start {p} {at} {m} {es} {d} l e g =
-      let own : edges_of B (list_of w n) p ≡ edges_for B (list_of w n) (chain_of w p) es =
-      at_place p l ∙ ap (λ (z : List ℕ). edges_for B (list_of w n) (chain_of w p) z) (sym e) in
-      record { so_far = ap (λ (z : List EdgeRecord). sets d at (spread form1.edge_bytes z)) own; ends = rw g }
+  pub owning_start : (p at : ℕ) (d : List ℕ) → p < n → Owning B w n p d at 0 d
+  owning_start p at d l =
+      let z : at + 4 * 0 ≡ at = omega arith in
+      record { so_far = rw z (ap (λ (y : List EdgeRecord). sets d at (spread form1.edge_bytes y)) (at_place p l)) }
 
   -- the target of an edge
   target_is : (p a t : ℕ) → p < n → IsPlace whole w n (step (delta B) (chain_of w p) a) t
@@ -257,34 +212,42 @@ module _ {B : Book} {w : Rows} {n : ℕ} (N : Numbered B w n) where
       (P.is (number L (step (delta B) (get_or L p []) a)) i
       (sym (list_at w n (number L (step (delta B) (get_or L p []) a)) i) ∙ s.1 ∙ ap (λ (z : Chain). step (delta B) z a) c))
 
-  pub owning_next : {p at left at' a t : ℕ} {d es fs d' d'' : List ℕ} → Owning B w n p d at es left at' d' → p < n → 0 < left
-      → es ≡ a ∷ fs → IsPlace whole w n (step (delta B) (chain_of w p) a) t
-      → d'' ≡ sets d' at' (form1.edge_bytes (edge_record a t)) → Owning B w n p d at fs (left - 1) (at' + 4) d''
-  owning_next {p} {at} {left} {at'} {a} {t} {d} {es} {fs} {d'} O l pos e P g =
+  pub owning_next : {p at i a t : ℕ} {d d' d'' : List ℕ} → Owning B w n p d at i d' → p < n
+      → (i < length (outs B (get_or w.heads p 0))) × (get_or (outs B (get_or w.heads p 0)) i 0 ≡ a)
+      → IsPlace whole w n (step (delta B) (chain_of w p) a) t
+      → d'' ≡ sets d' (at + 4 * i) (form1.edge_bytes (edge_record a t)) → Owning B w n p d at (i + 1) d''
+  owning_next {p} {at} {i} {a} {t} {d} {d'} {d''} O l E P g =
       let L = list_of w n in
-      let tl = spread form1.edge_bytes (edges_for B L (chain_of w p) fs) in
-      let ends = O.ends in
+      let es = outs B (get_or w.heads p 0) in
+      let tl = spread form1.edge_bytes (edges_for B L (chain_of w p) (drop (suc i) es)) in
+      let e : drop i es ≡ a ∷ drop (suc i) es = drop-cons es i 0 E.0 ∙ ap (λ (z : ℕ). z ∷ drop (suc i) es) E.1 in
+      let y : i + 1 ≡ suc i = omega arith in
+      let x : at + 4 * suc i ≡ at + 4 * i + 4 = omega arith in
       record {
         so_far =
             O.so_far ∙ rw (e, target_is p a t l P)
-            (sets_then d' at' (at' + 4) (form1.edge_bytes (edge_record a t)) tl refl ∙ rw (← g));
-        ends = omega arith;
+            (sets_then d' (at + 4 * i) (at + 4 * i + 4) (form1.edge_bytes (edge_record a t)) tl refl ∙ rw (← g, y, x));
       }
 
-  pub owning_end : {p at left at' : ℕ} {d es d' : List ℕ} → Owning B w n p d at es left at' d' → p < n → left ≡ 0 → es ≡ []
-      → Wrote d at (spread form1.edge_bytes (edges_of B (list_of w n) p)) d' at'
-  owning_end {p} {at} {left} {at'} {d} {es} {d'} O l z e =
+  -- h and m are what was read: the head of p and the number of its edges
+  pub owning_end : {p at i h m : ℕ} {d d' : List ℕ} → Owning B w n p d at i d' → p < n → h ≡ get_or w.heads p 0
+      → m ≡ length (outs B h) → i ≤ m → m ≤ i
+      → Wrote d at (spread form1.edge_bytes (edges_of B (list_of w n) p)) d' (at + 4 * m)
+  owning_end {p} {at} {i} {h} {m} {d} {d'} O l e g low high =
       let L = list_of w n in
-      let ends = O.ends in
-      let len = own_bytes B L (chain_of w p) (outs B (get_or w.heads p 0)) in
+      let es = outs B (get_or w.heads p 0) in
+      let own : m ≡ length es = g ∙ ap (λ (z : ℕ). length (outs B z)) e in
+      let all : i ≡ length es = omega arith in
+      let none : drop i es ≡ [] = rw all (drop-length es) in
+      let len = own_bytes B L (chain_of w p) es in
       let same = ap (λ (y : List EdgeRecord). length (spread form1.edge_bytes y)) (at_place p l) in
-      record { is = sym (O.so_far ∙ rw e); next = omega arith }
+      record { is = sym (O.so_far ∙ rw none); next = omega arith }
 
   -- ---- the edge records of all places
-  module _ {at p at' : ℕ} {d d' : List ℕ} (E : Edging B w n d at p at' d') (l : p < n) where
+  module _ {p r : ℕ} {d d' : List ℕ} (E : Edging B w n d p r d') (l : p < n) where
     -- the edges of the place p end where all edges end, at the latest
-    pub edging_room : at ≡ 14 * n → at' + 4 * length (outs B (get_or w.heads p 0)) ≤ 30720
-    edging_room e =
+    pub edging_room : r + 4 * length (outs B (get_or w.heads p 0)) ≤ 30720
+    edging_room =
         let L = list_of w n in
         let a = E.so_far.next in
         let b = edge_bytes B L p in
@@ -295,45 +258,36 @@ module _ {B : Book} {w : Rows} {n : ℕ} (N : Numbered B w n) where
         let up = first_edge_mono (delta B) (outs B) (marks B) L (p + 1) n (omega arith) in
         omega arith
 
-    pub edging_next : {at'' : ℕ} {d'' : List ℕ}
-        → Wrote d' at' (spread form1.edge_bytes (edges_of B (list_of w n) p)) d'' at'' → Edging B w n d at (p + 1) at'' d''
-    edging_next {at''} {d''} W =
+    pub edging_next : {r' : ℕ} {d'' : List ℕ}
+        → Wrote d' r (spread form1.edge_bytes (edges_of B (list_of w n) p)) d'' r' → Edging B w n d (p + 1) r' d''
+    edging_next {r'} {d''} W =
         let L = list_of w n in
         record {
-          most = omega arith;
           so_far =
-              subst (λ (z : List ℕ). Wrote d at z d'' at'')
+              subst (λ (z : List ℕ). Wrote d (14 * n) z d'' r')
               (sym (ap (λ (z : List EdgeRecord). spread form1.edge_bytes z) (edges_suc B L p)
               ∙ spread-append form1.edge_bytes (edges_below B L p) (edges_of B L p)))
               (wrote_then E.so_far W);
         }
 
   -- ---- the image
-  pub places_end : {d d' : List ℕ} {at : ℕ} → Wrote d 0 (spread form1.place_bytes (places_below B (list_of w n) n)) d' at
-      → at ≡ 14 * n
-  places_end W = let a = W.next in let b = place_bytes B (list_of w n) n in omega arith
+  pub image_few : {t : ℕ} → EdgesAre B w n t → 14 * n + 4 * t ≤ 90000
+  image_few g = let few = N.held.few in let all = N.few_edges in omega arith
 
-  pub edges_end : {d d' : List ℕ} {at at' t : ℕ} → at ≡ 14 * n → EdgesAre B w n t
-      → Wrote d at (spread form1.edge_bytes (edges_below B (list_of w n) n)) d' at' → (at' ≡ 14 * n + 4 * t) × (at' ≤ 90000)
-  edges_end e g W =
-      let a = W.next in
-      let b = edge_bytes B (list_of w n) n in
-      let few = N.held.few in
-      let all = N.few_edges in
-      (omega arith, omega arith)
-
-  pub image_wrote : {d d1 d2 d3 : List ℕ} {at at' t : ℕ} → EdgesAre B w n t
-      → Wrote d 0 (spread form1.place_bytes (places_below B (list_of w n) n)) d1 at
-      → Wrote d1 at (spread form1.edge_bytes (edges_below B (list_of w n) n)) d2 at'
-      → d3 ≡ sets d2 at' (form1.trailer_bytes (trailer_of form1 n t))
+  pub image_wrote : (d : List ℕ) {d1 d2 d3 : List ℕ} {t : ℕ} → EdgesAre B w n t
+      → d1 ≡ sets d 0 (spread form1.place_bytes (places_below B (list_of w n) n))
+      → d2 ≡ sets d1 (14 * n) (spread form1.edge_bytes (edges_below B (list_of w n) n))
+      → d3 ≡ sets d2 (14 * n + 4 * t) (form1.trailer_bytes (trailer_of form1 n t))
       → d3 ≡ sets d 0 (image_bytes form1 B (list_of w n))
   unfolding image_bytes
-  image_wrote {d} {d1} {d2} {d3} {at} {at'} {t} g X Y e =
+  image_wrote d {d1} {t = t} g X Y e =
       let L = list_of w n in
       let ps = spread form1.place_bytes (places_below B L n) in
       let es = spread form1.edge_bytes (edges_below B L n) in
       let tr = form1.trailer_bytes (trailer_of form1 n t) in
       let len = length_list w n in
-      e ∙ ap (λ (z : List ℕ). sets z at' tr) Y.is ∙ sym (sets_then d1 at at' es tr Y.next)
-      ∙ ap (λ (z : List ℕ). sets z at (es ++ tr)) X.is ∙ sym (sets_then d 0 at ps (es ++ tr) X.next)
+      let a = place_bytes B L n in
+      let b = edge_bytes B L n in
+      e ∙ ap (λ (z : List ℕ). sets z (14 * n + 4 * t) tr) Y ∙ sym (sets_then d1 (14 * n) (14 * n + 4 * t) es tr (omega arith))
+      ∙ ap (λ (z : List ℕ). sets z (14 * n) (es ++ tr)) X ∙ sym (sets_then d 0 (14 * n) ps (es ++ tr) (omega arith))
       ∙ rw (len, ← g)

@@ -6,16 +6,24 @@ use mathlib.Core.Logic.{◌≢◌}
 use mathlib.Core.List.{List, [], ◌∷◌, ◌++◌}
 use Prim.Native.Nat.{ℕ, zero, suc, ◌+◌, ◌≤◌, ◌<◌}
 use native.Mathlib.Omega.{arith}
-use lib.ListN.{length, get_or, set, length-set, length-append, replicate, get_or-append}
+use lib.ListN.{length, get_or, get_or-map, set, length-set, length-append, replicate, get_or-append}
+use Rattle.std.proofs.lemmas.List.{map-set}
 use lib.Seq.{get_or-set_same, get_or-set_other, get_or-append_seam}
 use borrow.Author.Tests.{eq-eqb, ne_eqb}
 use Rattle.meaning.specs.Chain.{live}
 use Rattle.meaning.proofs.Cases.{by_eq, by_order}
-use Rattle.compile.specs.Work.{Rows, rows, Down, chain_within, chain_of, list_of, Latest, Fit}
+use Rattle.compile.specs.Work.{Rows, rows, columns, earlier_of, Down, chain_within, chain_of, list_of, Latest, Held, Fit}
+use Rattle.compile.specs.declared.work.Row.{Row}
 
 -- a fallback, or an earlier place of the same head, is lower
 pub lower : (xs : List ℕ) → Down xs → {p f : ℕ} → p ≢ 0 → f ≡ get_or xs p 0 → f < p
 lower xs d {p} z e = let k = d p (omega arith) in omega arith
+
+pub not_above : {w : Rows} {n : ℕ} → Held w n → (p : ℕ) {f : ℕ} → f ≡ get_or w.fallbacks p 0 → (f ≤ p) × (0 < p → f < p)
+not_above {w} H p {f} e =
+    let down : 0 < p → f < p = λ l. let k = H.fallbacks_down p l in omega arith in
+    let zero : p ≡ 0 → f ≤ p = λ z. let k = e ∙ ap (λ (i : ℕ). get_or w.fallbacks i 0) z ∙ H.fallback_zero in omega arith in
+    (by_eq p 0 zero (λ z. let k = down (omega arith) in omega arith), down)
 
 from_zero : (w : Rows) (n p : ℕ) → p ≡ 0 → chain_within n w p ≡ []
 from_zero w zero p e = refl
@@ -276,3 +284,44 @@ module _ (newest earlier : List ℕ) (w : Rows) (n q r f : ℕ) (F : Fit newest 
 
   pub list_longer : list_of (longer w n q r f) (n + 1) ≡ list_of w n ++ ((live q r ∷ chain_of w f) ∷ [])
   list_longer = list_suc (longer w n q r f) n ∙ rw (chain_new, list_same (longer w n q r f) w n chain_kept)
+
+-- ---- the places' rows: what is read of one, and one more
+abbrev empty : Row
+empty = record { head = 0; level = 0; earlier = 0; fallback = 0 }
+
+module _ (xs : List Row) (p : ℕ) where
+  pub head_in : {h : ℕ} → h ≡ (get_or xs p empty).head → h ≡ get_or (columns xs).heads p 0
+  head_in e = e ∙ sym (get_or-map (λ (r : Row). r.head) xs p empty)
+
+  pub level_in : {l : ℕ} → l ≡ (get_or xs p empty).level → l ≡ get_or (columns xs).levels p 0
+  level_in e = e ∙ sym (get_or-map (λ (r : Row). r.level) xs p empty)
+
+  pub fallback_in : {f : ℕ} → f ≡ (get_or xs p empty).fallback → f ≡ get_or (columns xs).fallbacks p 0
+  fallback_in e = e ∙ sym (get_or-map (λ (r : Row). r.fallback) xs p empty)
+
+  pub earlier_in : {e : ℕ} → e ≡ (get_or xs p empty).earlier → e ≡ get_or (earlier_of xs) p 0
+  earlier_in e = e ∙ sym (get_or-map (λ (r : Row). r.earlier) xs p empty)
+
+columns_set : (xs : List Row) (n : ℕ) (r : Row) → columns (set xs n r) ≡ longer (columns xs) n r.head r.level r.fallback
+columns_set xs n r = λ i.
+    record {
+      heads = map-set (λ (y : Row). y.head) xs n r i;
+      levels = map-set (λ (y : Row). y.level) xs n r i;
+      fallbacks = map-set (λ (y : Row). y.fallback) xs n r i;
+    }
+
+module _ {newest : List ℕ} (xs : List Row) {n : ℕ} (F : Fit newest (earlier_of xs) (columns xs) n) (room : n < 1024)
+    (r : Row) (small-head : r.head < 512) (low-level : r.level ≤ n) (back : r.fallback < n) where
+  pub fit_pushed : r.earlier ≡ get_or newest r.head 0
+      → Fit (set newest r.head n) (earlier_of (set xs n r)) (columns (set xs n r)) (n + 1)
+  fit_pushed e =
+      let after : earlier_of (set xs n r) ≡ set (earlier_of xs) n (get_or newest r.head 0) =
+      map-set (λ (y : Row). y.earlier) xs n r ∙ ap (λ (z : ℕ). set (earlier_of xs) n z) e in
+      rw (after, columns_set xs n r)
+      (fit_longer newest (earlier_of xs) (columns xs) n r.head r.level r.fallback F room small-head low-level back)
+
+  pub list_pushed : list_of (columns (set xs n r)) (n + 1)
+      ≡ list_of (columns xs) n ++ ((live r.head r.level ∷ chain_of (columns xs) r.fallback) ∷ [])
+  list_pushed =
+      rw (columns_set xs n r)
+      (list_longer newest (earlier_of xs) (columns xs) n r.head r.level r.fallback F room small-head low-level back)

@@ -4,7 +4,7 @@
 use mathlib.Core.Path.{◌≡◌, refl, sym, ap, ◌∙◌, subst}
 use mathlib.Core.Logic.{◌≢◌}
 use mathlib.Core.Bool.{Bool, true, false}
-use mathlib.Core.Option.{none, some}
+use Rattle.std.specs.Prelude.{Option, None, Some, unwrap_or}
 use mathlib.Core.List.{List, [], ◌∷◌}
 use Prim.Native.Nat.{ℕ, suc, ◌+◌, ◌<◌}
 use native.Mathlib.Omega.{arith}
@@ -18,7 +18,7 @@ use Rattle.meaning.proofs.Cases.{by_bool, by_eq, by_order, true_false}
 use Rattle.meaning.proofs.Keys.{Rule, same_chain_iff}
 use Rattle.meaning.proofs.Rules.{whole-rule}
 use Rattle.compile.specs.Work.{Rows, Down, chain_of, Latest, Held, Fit}
-use Rattle.compile.specs.Explore.{Key, whole, rest_after, Seen, IsSeen, Settled, Finds}
+use Rattle.compile.specs.Explore.{Key, whole, rest_after, Seen, IsSeen, Settled, FoundAt, NotFound, Finds}
 use Rattle.compile.proofs.Rows.{chain-zero, chain_cons}
 
 cons_nil : {A : Type 0} {x : Live} {c : Chain} → x ∷ c ≡ [] → A
@@ -59,47 +59,44 @@ module _ (w : Rows) (n : ℕ) (H : Held w n) where
       → step δ (chain_of w p) a ≡ put (δ (get_or w.heads p 0) a) (suc (get_or w.levels p 0)) (rest_after δ (chain_of w p) a)
   step_of = step_at w H.fallbacks_down H.head-zero H.level-zero
 
-  pub step_some : (δ : Delta) (a p q : ℕ) → δ (get_or w.heads p 0) a ≡ some q
-      → step δ (chain_of w p) a ≡ put (some q) (get_or w.levels p 0 + 1) (rest_after δ (chain_of w p) a)
+  pub step_some : (δ : Delta) (a p q : ℕ) → δ (get_or w.heads p 0) a ≡ Some q
+      → step δ (chain_of w p) a ≡ put (Some q) (get_or w.levels p 0 + 1) (rest_after δ (chain_of w p) a)
   step_some δ a p q e =
       let g : suc (get_or w.levels p 0) ≡ get_or w.levels p 0 + 1 = omega arith in
       step_of δ a p ∙ rw (e, g)
 
 -- the states of a chain that were seen: at first the start alone, which stands at the end of every chain
-zeros : List ℕ
-zeros = replicate 512 0
+nothing : List Bool
+nothing = replicate 512 false
 
-pub seen_none : (seen : List ℕ) → seen ≡ set (replicate 512 0) 0 1 → Seen seen []
-unfolding zeros
+pub seen_none : (seen : List Bool) → seen ≡ set (replicate 512 false) 0 true → Seen seen []
+unfolding nothing
 seen_none seen e =
-    let l : length zeros ≡ 512 = refl in
+    let l : length nothing ≡ 512 = refl in
     record {
-      seen_length = ap length e ∙ length-set zeros 0 1;
+      seen_length = ap length e ∙ length-set nothing 0 true;
       seen_is = λ q h.
-          ap (λ (z : List ℕ). get_or z q 0) e
+          ap (λ (z : List Bool). get_or z q false) e
           ∙ by_eq q 0 (λ z. rw z)
-          (λ z. rw (ne_eqb q 0 z) (get_or-set_other zeros 0 q 1 0 z ∙ get_or-replicate 512 q 0 0 h));
+          (λ z. rw (ne_eqb q 0 z) (get_or-set_other nothing 0 q true false z ∙ get_or-replicate 512 q false false h));
     }
 
-module _ (seen : List ℕ) (c : Chain) (q : ℕ) (l : q < 512) (S : Seen seen c) where
-  pub seen_true : get_or seen q 0 ≢ 0 → has q c ≡ true
-  seen_true z = by_bool (has q c) (λ e. e) (λ e. absurd (z (S.seen_is q l ∙ rw e)))
+module _ (seen : List Bool) (c : Chain) (q : ℕ) (l : q < 512) (S : Seen seen c) where
+  pub seen_true : get_or seen q false ≡ true → has q c ≡ true
+  seen_true z = sym (S.seen_is q l) ∙ z
 
-  pub seen_false : get_or seen q 0 ≡ 0 → has q c ≡ false
-  seen_false z =
-      by_bool (has q c)
-      (λ e. let f : get_or seen q 0 ≡ 1 = S.seen_is q l ∙ rw e in absurd (let x : ⊥ = omega arith in x))
-      (λ e. e)
+  pub seen_false : get_or seen q false ≡ false → has q c ≡ false
+  seen_false z = sym (S.seen_is q l) ∙ z
 
-  seen_more : (r : ℕ) → Seen (set seen q 1) (live q r ∷ c)
+  seen_more : (r : ℕ) → Seen (set seen q true) (live q r ∷ c)
   seen_more r =
       let n = S.seen_length in
       record {
-        seen_length = length-set seen q 1 ∙ n;
+        seen_length = length-set seen q true ∙ n;
         seen_is = λ k h.
             by_eq k q
-            (λ e. rw (e, eq-eqb q q refl) (get_or-set_same seen q 1 0 (omega arith)))
-            (λ e. rw (ne_eqb q k (λ z. e (sym z))) (get_or-set_other seen q k 1 0 e ∙ S.seen_is k h));
+            (λ e. rw (e, eq-eqb q q refl) (get_or-set_same seen q true false (omega arith)))
+            (λ e. rw (ne_eqb q k (λ z. e (sym z))) (get_or-set_other seen q k true false e ∙ S.seen_is k h));
       }
 
 -- a test on a place of the right head: is its chain q with the reach r, and then the chain of the place f?
@@ -152,21 +149,15 @@ module _ (key : Key) (δ : Delta) (R : Rule key δ) (newest earlier : List ℕ) 
               (λ s. S.after j s k h);
         }
 
-    pub seek_hit : (p : ℕ) → p ≢ 0 → Seek key w n q r f p → test p ≡ true → Finds key w n q r f p
-    seek_hit p z S e =
-        let a = S.at (omega arith) in
-        record { below = a.0; hit = λ l. (T p l a.0 a.1).0 e; miss = λ y. absurd (z y) }
+    pub seek_hit : (p : ℕ) → p ≢ 0 → Seek key w n q r f p → test p ≡ true → FoundAt key w n q r f p
+    seek_hit p z S e = let a = S.at (omega arith) in record { below = a.0; is = (T p (omega arith) a.0 a.1).0 e }
 
-    pub seek_end : (p : ℕ) → p ≡ 0 → Seek key w n q r f p → Finds key w n q r f 0
+    pub seek_end : (p : ℕ) → p ≡ 0 → Seek key w n q r f p → NotFound key w n q r f
     seek_end p z S =
-        record {
-          below = F.held.some_place;
-          hit = λ l. absurd (let k : ⊥ = omega arith in k);
-          miss = λ y i l e. S.after i (let m = (place_cons i (live q r) (chain_of w f) e).0 in omega arith) l e;
-        }
+        record { no = λ i l e. S.after i (let m = (place_cons i (live q r) (chain_of w f) e).0 in omega arith) l e }
 
   -- what has a place with q put in front has a place without it
-  put_rest : (q r : ℕ) (S : Chain) (i : ℕ) → i < n → key (chain_of w i) ≡ key (put (some q) r S)
+  put_rest : (q r : ℕ) (S : Chain) (i : ℕ) → i < n → key (chain_of w i) ≡ key (put (Some q) r S)
       → (j : ℕ) × (j < n) × (key (chain_of w j) ≡ key S)
   put_rest q r S i l e =
       by_bool (has q S) (λ h. (i, l, rw h at e))
@@ -175,18 +166,29 @@ module _ (key : Key) (δ : Delta) (R : Rule key δ) (newest earlier : List ℕ) 
       let d = F.held.fallbacks_down i k.0 in
       (get_or w.fallbacks i 0, omega arith, k.1))
 
-  module _ (seen : List ℕ) (q r f : ℕ) (s : q < 512) where
+  -- the place that was found, 0 where none was
+  module _ (q r f : ℕ) where
+    find_below : (o : Option ℕ) → Finds key w n q r f o → unwrap_or o 0 < n
+    find_below None D = F.held.some_place
+    find_below (Some k) D = D.below
+
+    find_is : (o : Option ℕ) → Finds key w n q r f o → (i : ℕ) → i < n → key (chain_of w i) ≡ key (live q r ∷ chain_of w f)
+        → key (chain_of w (unwrap_or o 0)) ≡ key (live q r ∷ chain_of w f)
+    find_is None D i l e = absurd (D.no i l e)
+    find_is (Some k) D i l e = D.is
+
+  module _ (seen : List Bool) (q r f : ℕ) (s : q < 512) where
     -- what is known of a chain S with q in front that has a place
-    known : (S : Chain) → IsSeen key w n S f seen → (i : ℕ) → i < n → key (chain_of w i) ≡ key (put (some q) r S)
+    known : (S : Chain) → IsSeen key w n S f seen → (i : ℕ) → i < n → key (chain_of w i) ≡ key (put (Some q) r S)
         → (key (chain_of w f) ≡ key S) × Seen seen S
     known S P i l e = let j = put_rest q r S i l e in (P.place.is j.0 j.1 j.2, P.states j.0 j.1 j.2)
 
     -- the target stands in the rest already
-    pub settle_in : get_or seen q 0 ≢ 0 → Settled key w n q r f seen f seen
+    pub settle_in : get_or seen q false ≡ true → Settled key w n q r f seen f seen
     settle_in h =
         record {
           on = λ S P.
-              let old : (M : Seen seen S) → put (some q) r S ≡ S = λ M. rw (seen_true seen S q s M h) in
+              let old : (M : Seen seen S) → put (Some q) r S ≡ S = λ M. rw (seen_true seen S q s M h) in
               record {
                 place =
                     record {
@@ -198,31 +200,29 @@ module _ (key : Key) (δ : Delta) (R : Rule key δ) (newest earlier : List ℕ) 
         }
 
     -- or it does not, and is put in front of it
-    pub settle_new : (k : ℕ) (seen' : List ℕ) → get_or seen q 0 ≡ 0 → seen' ≡ set seen q 1 → Finds key w n q r f k
-        → Settled key w n q r f seen k seen'
-    settle_new k seen' h g D =
+    pub settle_new : (o : Option ℕ) (seen' : List Bool) → get_or seen q false ≡ false → seen' ≡ set seen q true → Finds key w n q r f o
+        → Settled key w n q r f seen (unwrap_or o 0) seen'
+    settle_new o seen' h g D =
         record {
           on = λ S P.
-              let new : (M : Seen seen S) → put (some q) r S ≡ live q r ∷ S = λ M. rw (seen_false seen S q s M h) in
-              let on-f : (i : ℕ) → i < n → key (chain_of w i) ≡ key (put (some q) r S)
-              → key (put (some q) r S) ≡ key (live q r ∷ chain_of w f) =
+              let new : (M : Seen seen S) → put (Some q) r S ≡ live q r ∷ S = λ M. rw (seen_false seen S q s M h) in
+              let on-f : (i : ℕ) → i < n → key (chain_of w i) ≡ key (put (Some q) r S)
+              → key (put (Some q) r S) ≡ key (live q r ∷ chain_of w f) =
               λ i l e.
               let o = known S P i l e in
               ap key (new o.1) ∙ (R.key_cons (live q r) (live q r) S (chain_of w f)).1 (refl, sym o.0) in
               record {
                 place =
                     record {
-                      below = D.below;
-                      is = λ i l e.
-                          let u = on-f i l e in
-                          by_eq k 0 (λ z. absurd (D.miss z i l (e ∙ u))) (λ z. D.hit (omega arith) ∙ sym u);
+                      below = find_below q r f o D;
+                      is = λ i l e. let u = on-f i l e in find_is q r f o D i l (e ∙ u) ∙ sym u;
                     };
                 states = λ i l e. let o = known S P i l e in rw (new o.1, g) (seen_more seen S q s o.1 r);
               };
         }
 
   -- where nothing is left nothing is seen
-  pub rest_end : (a p : ℕ) (seen : List ℕ) → rest_after δ (chain_of w p) a ≡ [] → Seen seen []
+  pub rest_end : (a p : ℕ) (seen : List Bool) → rest_after δ (chain_of w p) a ≡ [] → Seen seen []
       → IsSeen key w n (rest_after δ (chain_of w p) a) 0 seen
   rest_end a p seen e M =
       rw e
@@ -230,7 +230,7 @@ module _ (key : Key) (δ : Delta) (R : Rule key δ) (newest earlier : List ℕ) 
 
 -- the search that reads both chains to their ends: no event is looked at
 stays : Delta
-stays q a = none
+stays q a = None
 
 abbrev same : Rows → ℕ → ℕ → ℕ → ℕ → Bool
 same w q r f p = same_chain (chain_of w p) (live q r ∷ chain_of w f)
@@ -247,19 +247,19 @@ module _ {newest earlier : List ℕ} {w : Rows} {n : ℕ} (F : Fit newest earlie
       (sym h ∙ i)
 
   pub seek_found : {q r f p : ℕ} {t : Bool} → p ≢ 0 → Seek whole w n q r f p → t ≡ same w q r f p → t ≡ true
-      → Finds whole w n q r f p
+      → FoundAt whole w n q r f p
   seek_found {q} {r} {f} {p} z S h i =
       seek_hit whole stays (whole-rule stays) newest earlier w n F q r f (same w q r f) (whole_tests w n q r f) p z S
       (sym h ∙ i)
 
-  pub seek_none : {q r f p : ℕ} → p ≡ 0 → Seek whole w n q r f p → Finds whole w n q r f 0
+  pub seek_none : {q r f p : ℕ} → p ≡ 0 → Seek whole w n q r f p → NotFound whole w n q r f
   seek_none {q} {r} {f} {p} =
       seek_end whole stays (whole-rule stays) newest earlier w n F q r f (same w q r f) (whole_tests w n q r f) p
 
-  pub settled_in : {q r f : ℕ} {seen : List ℕ} → q < 512 → get_or seen q 0 ≢ 0 → Settled whole w n q r f seen f seen
+  pub settled_in : {q r f : ℕ} {seen : List Bool} → q < 512 → get_or seen q false ≡ true → Settled whole w n q r f seen f seen
   settled_in {q} {r} {f} {seen} s = settle_in whole stays (whole-rule stays) newest earlier w n F seen q r f s
 
-  pub settled_new : {q r f k : ℕ} {seen seen' : List ℕ} → q < 512 → get_or seen q 0 ≡ 0 → seen' ≡ set seen q 1
-      → Finds whole w n q r f k → Settled whole w n q r f seen k seen'
-  settled_new {q} {r} {f} {k} {seen} {seen'} s =
-      settle_new whole stays (whole-rule stays) newest earlier w n F seen q r f s k seen'
+  pub settled_new : (o : Option ℕ) {q r f : ℕ} {seen seen' : List Bool} → q < 512 → get_or seen q false ≡ false → seen' ≡ set seen q true
+      → Finds whole w n q r f o → Settled whole w n q r f seen (unwrap_or o 0) seen'
+  settled_new o {q} {r} {f} {seen} {seen'} s =
+      settle_new whole stays (whole-rule stays) newest earlier w n F seen q r f s o seen'

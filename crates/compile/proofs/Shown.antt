@@ -4,7 +4,7 @@
 -- same. Assumes nothing.
 use mathlib.Core.Path.{◌≡◌, refl, sym, ap, ◌∙◌, subst}
 use mathlib.Core.Logic.{◌≢◌}
-use mathlib.Core.Option.{Option, some}
+use Rattle.std.specs.Prelude.{Option, Some}
 use mathlib.Core.List.{List, [], ◌∷◌, ◌++◌, map, Memᴰ}
 use Prim.Native.Nat.{ℕ, zero, suc, ◌+◌, ◌-◌, ◌≤◌, ◌<◌}
 use native.Mathlib.Omega.{arith}
@@ -204,11 +204,11 @@ module _ {B : Book} {L : List Chain} (F : Fine B L) where
       ∙ ap (λ (k : ℕ). index_from k es a) e in
       rw (here, there)
 
-  found_inside : (es : List ℕ) (j k a : ℕ) → index_from j es a ≡ some k → k < j + length es
+  found_inside : (es : List ℕ) (j k a : ℕ) → index_from j es a ≡ Some k → k < j + length es
   found_inside [] j k a e = none_some refl e
   found_inside (b ∷ es) j k a e =
       by_bool (eqb b a)
-      (λ h. let g : ◌≡◌ {A = Option ℕ} (some j) (some k) = sym (rw h) ∙ e in let z : j ≡ k = cc in omega arith)
+      (λ h. let g : ◌≡◌ {A = Option ℕ} (Some j) (Some k) = sym (rw h) ∙ e in let z : j ≡ k = cc in omega arith)
       (λ h. let i = found_inside es (suc j) k a (sym (rw h) ∙ e) in omega arith)
 
   pub image_alike : Alike (questions (image_bytes form1 B L)) model

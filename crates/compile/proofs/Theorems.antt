@@ -12,7 +12,7 @@
 use mathlib.Core.Path.{◌≡◌, refl, sym, ap, ◌∙◌}
 use mathlib.Core.Logic.{◌≢◌, ◌↔◌}
 use mathlib.Core.Bool.{Bool, true, ◌&&◌}
-use mathlib.Core.Option.{Option, none, some}
+use Rattle.std.specs.Prelude.{Option, None, Some}
 use mathlib.Core.List.{List, [], ◌∷◌, ◌++◌}
 use Prim.Native.Nat.{ℕ, ◌+◌, ◌≤◌, ◌<◌}
 use native.Mathlib.Omega.{arith}
@@ -44,18 +44,16 @@ use Rattle.compile.specs.Bytes.{edge_count, image_bytes}
 use Rattle.compile.specs.Answer.{chains_of, made_of, image_of_book, compile_answer, compile_memory}
 use Rattle.compile.proofs.Back.{length_image}
 use Rattle.meaning.proofs.Alike.{Alike, walk_alike, run_alike}
+use Rattle.meaning.proofs.Refused.{refused_accepted}
 use Rattle.compile.proofs.Shown.{Fine, model_levels, image_alike}
 use Rattle.compile.proofs.Valid.{image_accepted}
 
--- a refusal is no acceptance, and two numbers are two refusals
-refused_accepted : {A : Type 0} {n p a b c d : ℕ} → refused n p ≡ accepted a b c d → A
-refused_accepted e = let z : ◌≡◌ {A = ℕ} 0 1 = cc in absurd (let w : ⊥ = omega arith in w)
-
+-- two numbers are two refusals
 numbers_differ : {A : Type 0} {n m p r : ℕ} → refused n p ≡ refused m r → n ≢ m → A
 numbers_differ {n = n} {m = m} e d = let z : n ≡ m = cc in absurd (d z)
 
 pub record Compiles (B : Book) (L : List Chain) (room l q t : ℕ) : Type 0 where
-  pub chains : chains_of B ≡ some L
+  pub chains : chains_of B ≡ Some L
   pub fine : Fine B L
   pub places : length L ≡ q
   pub edges : edge_count B L ≡ t
@@ -63,7 +61,7 @@ pub record Compiles (B : Book) (L : List Chain) (room l q t : ℕ) : Type 0 wher
   pub fits : l ≤ room
 
 -- the answers for a book whose chains are L: 15, 16, or accepted
-by_made : {A : Type 0} (B : Book) (L : List Chain) (room : ℕ) (a : Answer) → made_of B room (some L) ≡ a
+by_made : {A : Type 0} (B : Book) (L : List Chain) (room : ℕ) (a : Answer) → made_of B room (Some L) ≡ a
     → (4096 < edge_count B L → refused 15 0 ≡ a → A)
     → (edge_count B L ≤ 4096 → room < size_of form1 (length L) (edge_count B L) → refused 16 0 ≡ a → A)
     → (edge_count B L ≤ 4096 → size_of form1 (length L) (edge_count B L) ≤ room
@@ -78,8 +76,8 @@ by_made B L room a e many short fits =
     (λ g. short (ltb-false 4096 t h) (ltb-true room (size_of form1 q t) g) (sym (rw (h, g)) ∙ e))
     (λ g. fits (ltb-false 4096 t h) (ltb-false room (size_of form1 q t) g) (sym (rw (h, g)) ∙ e)))
 
-made_some : (B : Book) (L : List Chain) (room l q t z : ℕ) → chains_of B ≡ some L → (edge_count B L ≤ 4096 → Fine B L)
-    → made_of B room (some L) ≡ accepted l q t z → Compiles B L room l q t
+made_some : (B : Book) (L : List Chain) (room l q t z : ℕ) → chains_of B ≡ Some L → (edge_count B L ≤ 4096 → Fine B L)
+    → made_of B room (Some L) ≡ accepted l q t z → Compiles B L room l q t
 made_some B L room l q t z c fine e =
     let n = length L in
     let u = edge_count B L in
@@ -176,7 +174,7 @@ module _ (xs : List ℕ) where
       go (refused n p) f = let g : refused n p ≡ accepted l q t z = sym (rw f) ∙ e in refused_accepted g
 
   -- what an accepted book with few enough places and edges gives
-  fine_book : {S E : ℕ} → check_book xs ≡ accepted S E 0 0 → {L : List Chain} → chains_of (book_of xs) ≡ some L
+  fine_book : {S E : ℕ} → check_book xs ≡ accepted S E 0 0 → {L : List Chain} → chains_of (book_of xs) ≡ Some L
       → edge_count (book_of xs) L ≤ 4096 → Fine (book_of xs) L
   unfolding chains_of
   fine_book {S} {E} A {L} e few =
@@ -204,8 +202,8 @@ module _ (xs : List ℕ) where
       b = book_first room l q t z e
 
       go : (o : Option (List Chain)) → chains_of (book_of xs) ≡ o → (L : List Chain) × Compiles (book_of xs) L room l q t
-      go none f = refused_accepted {n = 14} {p = 0} (sym (rw f) ∙ b.3)
-      go (some L) f = (L, made_some (book_of xs) L room l q t z f (fine_book b.2 f) (sym (rw f) ∙ b.3))
+      go None f = refused_accepted {n = 14} {p = 0} (sym (rw f) ∙ b.3)
+      go (Some L) f = (L, made_some (book_of xs) L room l q t z f (fine_book b.2 f) (sym (rw f) ∙ b.3))
 
   pub compiled_accepted : (room l q t z : ℕ) → compile_answer xs room ≡ accepted l q t z
       → check_image (image_of_book (book_of xs)) ≡ accepted q t 0 0
@@ -244,24 +242,24 @@ module _ (xs : List ℕ) where
     refused_14 =
         let B = book_of xs in
         let over = places_over (delta B) (outs B) (delta_names B) 1024 in
-        ((λ e. over.0 (none_of (chains_of B) refl e)), λ m. answer_of none (over.1 m))
+        ((λ e. over.0 (none_of (chains_of B) refl e)), λ m. answer_of None (over.1 m))
       where
         none_of : (o : Option (List Chain)) → chains_of (book_of xs) ≡ o → compile_answer xs room ≡ refused 14 0
-            → places (delta (book_of xs)) (outs (book_of xs)) 1024 ≡ none
-        none_of none f e = f
-        none_of (some L) f e =
-            by_made (book_of xs) L room (refused 14 0) (sym (answer_of (some L) f) ∙ e)
+            → places (delta (book_of xs)) (outs (book_of xs)) 1024 ≡ None
+        none_of None f e = f
+        none_of (Some L) f e =
+            by_made (book_of xs) L room (refused 14 0) (sym (answer_of (Some L) f) ∙ e)
             (λ h g. numbers_differ g (omega arith)) (λ h k g. numbers_differ g (omega arith))
             (λ h k g. refused_accepted (sym g))
 
     -- with at most 1,024 places: their edges are more than 4,096
-    pub refused_15 : (L : List Chain) → chains_of (book_of xs) ≡ some L
+    pub refused_15 : (L : List Chain) → chains_of (book_of xs) ≡ Some L
         → (compile_answer xs room ≡ refused 15 0) ↔ (4096 < edge_count (book_of xs) L)
     refused_15 L f = (
       (λ e.
-          by_made (book_of xs) L room (refused 15 0) (sym (answer_of (some L) f) ∙ e)
+          by_made (book_of xs) L room (refused 15 0) (sym (answer_of (Some L) f) ∙ e)
           (λ h g. h) (λ h k g. numbers_differ g (omega arith)) (λ h k g. refused_accepted (sym g))),
-      λ l. answer_of (some L) f ∙ rw (lt-ltb 4096 (edge_count (book_of xs) L) l),
+      λ l. answer_of (Some L) f ∙ rw (lt-ltb 4096 (edge_count (book_of xs) L) l),
     )
 
   book_numbers : {n p : ℕ} → check_book xs ≡ refused n p → n ≤ 13
@@ -277,9 +275,9 @@ module _ (xs : List ℕ) where
   room_enough room p l e = go (check_book xs) refl
     where
       among : (S E : ℕ) → check_book xs ≡ accepted S E 0 0 → (o : Option (List Chain)) → chains_of (book_of xs) ≡ o → ⊥
-      among S E A none f = numbers_differ (sym (answer_of A room none f) ∙ e) (omega arith)
-      among S E A (some L) f =
-          by_made (book_of xs) L room (refused 16 p) (sym (answer_of A room (some L) f) ∙ e)
+      among S E A None f = numbers_differ (sym (answer_of A room None f) ∙ e) (omega arith)
+      among S E A (Some L) f =
+          by_made (book_of xs) L room (refused 16 p) (sym (answer_of A room (Some L) f) ∙ e)
           (λ h g. numbers_differ g (omega arith))
           (λ few short g. let F = fine_book A f few in let q = F.few_places in omega arith)
           (λ h k g. refused_accepted (sym g))

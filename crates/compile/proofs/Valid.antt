@@ -3,7 +3,7 @@
 use mathlib.Core.Path.{◌≡◌, refl, sym, ap, ◌∙◌, subst}
 use mathlib.Core.Logic.{◌≢◌}
 use mathlib.Core.Bool.{true}
-use mathlib.Core.Option.{none}
+use Rattle.std.specs.Prelude.{None}
 use mathlib.Core.List.{List, [], ◌∷◌, Memᴰ}
 use Prim.Native.Nat.{ℕ, zero, suc, ◌+◌, ◌≤◌, ◌<◌}
 use native.Mathlib.Omega.{arith}
@@ -129,7 +129,7 @@ module _ {B : Book} {L : List Chain} (F : Fine B L) where
       (λ z. subst (λ (k : ℕ). start_right (place_of B L k) ≡ true) (sym z) start_right_lem) (other_right_lem p l)))
 
   places_right : (left p sum : ℕ) → p + left ≡ length L → sum ≡ firsts p
-      → places_fault (place_at form1 bytes) (edge_count B L) left p sum ≡ none
+      → places_fault (place_at form1 bytes) (edge_count B L) left p sum ≡ None
   unfolding places_fault
   places_right zero p sum e g =
       let z : p ≡ length L = omega arith in
@@ -194,7 +194,7 @@ module _ {B : Book} {L : List Chain} (F : Fine B L) where
         )
 
     events_right : (left i floor : ℕ) → i + left ≡ length own → (i < length own → floor ≤ get_or own i 0)
-        → events_fault place edge (length L) (place p).level left (firsts p + i) floor ≡ none
+        → events_fault place edge (length L) (place p).level left (firsts p + i) floor ≡ None
     unfolding events_fault
     events_right zero i floor e low = refl
     events_right (suc left) i floor e low =
@@ -206,7 +206,7 @@ module _ {B : Book} {L : List Chain} (F : Fine B L) where
         (λ h. let u = F.rise (head (get_or L p [])) i (i + 1) (omega arith) h in omega arith))
 
   edges_right : (left p j : ℕ) → p + left ≡ length L → j ≡ firsts p
-      → edges_fault (place_at form1 bytes) (edge_at form1 bytes (length L)) (length L) left p j ≡ none
+      → edges_fault (place_at form1 bytes) (edge_at form1 bytes (length L)) (length L) left p j ≡ None
   unfolding edges_fault
   edges_right zero p j e g = refl
   edges_right (suc left) p j e g =

@@ -5,26 +5,27 @@
 --   image_of_book B         the bytes of the book's image; none where there are too many places
 --   compile_answer xs room  the answer for the book xs with so many bytes of room
 --   compile_memory xs out   the lent memory afterwards: the image from its start, or as it was
---   told                    the numbers of each answer
-use Rattle.std.proofs.Math.Option.{Option, none, some}
+--   making, told            the numbers of what was made; of each answer
+use Rattle.std.specs.Prelude.{Option, None, Some, Result}
 use Rattle.std.specs.Prelude.{List, [], ◌∷◌, ℕ, length, ltb}
 use Rattle.meaning.specs.Chain.{Chain}
 use Rattle.meaning.specs.Places.{places}
 use Rattle.meaning.specs.Book.{Book, delta, outs}
 use Rattle.meaning.specs.Answer.{Answer, accepted, refused, rule, judged, leaving}
+use Rattle.meaning.specs.Refusal as refusal
+use Rattle.meaning.specs.declared.Refusal.{Refusal}
 use Rattle.book.specs.Model.{book_of}
 use Rattle.book.specs.Rules.{check_book}
 use Rattle.image.specs.Form.{form1, size_of}
 use Rattle.compile.specs.Bytes.{edge_count, image_bytes}
-use Rattle.compile.specs.declared.Compiled.{Compiled}
-use Rattle.compile.specs.declared.Compiled.TheVariants.{Made, Refused}
+use Rattle.compile.specs.declared.Made.{Made}
 
 unfoldable pub chains_of : Book → Option (List Chain)
 chains_of B = places (delta B) (outs B) form1.most_places
 
 abbrev pub made_of : Book → ℕ → Option (List Chain) → Answer
-made_of B room none = refused 14 0
-made_of B room (some L) =
+made_of B room None = refused 14 0
+made_of B room (Some L) =
     let q = length L in
     let t = edge_count B L in
     judged
@@ -32,8 +33,8 @@ made_of B room (some L) =
     (accepted (size_of form1 q t) q t 0)
 
 abbrev pub bytes_for : Book → Option (List Chain) → List ℕ
-bytes_for B none = []
-bytes_for B (some L) = image_bytes form1 B L
+bytes_for B None = []
+bytes_for B (Some L) = image_bytes form1 B L
 
 abbrev pub image_of_book : Book → List ℕ
 image_of_book B = bytes_for B (chains_of B)
@@ -49,6 +50,8 @@ compile_answer xs room = after_book (check_book xs) (made_of (book_of xs) room (
 unfoldable pub compile_memory : List ℕ → List ℕ → List ℕ
 compile_memory xs out = leaving (compile_answer xs (length out)) out (image_of_book (book_of xs))
 
-abbrev pub told : Compiled → Answer
-told (Made l q t) = accepted l q t 0
-told (Refused n p) = refused n p
+abbrev pub making : Made → Answer
+making m = accepted m.length m.places m.edges 0
+
+abbrev pub told : Result Made Refusal → Answer
+told r = refusal.told making r

@@ -1,15 +1,17 @@
 -- The work arrays of a compile: for each place its head, its level and its fallback; for each head its newest place;
 -- for each place the earlier place of the same head.
 --   Rows, rows          head, level and fallback of each place
+--   columns, earlier_of those of the places' rows; for each the earlier place of the same head
 --   Down                each entry but the first is below its index
 --   chain_of w p        the chain of the place p, by its fallbacks
 --   list_of w n         the chains of the places below n
 --   Latest              the last place with a head
 --   Held                the rows are those of n places
 --   Fit                 and the places of each head are linked, newest first
-use Rattle.std.specs.Prelude.{◌≡◌, List, [], ◌∷◌, ◌++◌, ℕ, zero, suc, ◌≤◌, ◌<◌, length, get_or, eqb}
+use Rattle.std.specs.Prelude.{◌≡◌, List, [], ◌∷◌, ◌++◌, map, ℕ, zero, suc, ◌≤◌, ◌<◌, length, get_or, eqb}
 use Rattle.meaning.specs.Choice.{when}
 use Rattle.meaning.specs.Chain.{Chain, live}
+use Rattle.compile.specs.declared.work.Row.{Row}
 
 pub record Rows : Type 0 where
   pub heads : List ℕ
@@ -18,6 +20,13 @@ pub record Rows : Type 0 where
 
 abbrev pub rows : List ℕ → List ℕ → List ℕ → Rows
 rows h l f = record { heads = h; levels = l; fallbacks = f }
+
+-- of the places' rows
+abbrev pub columns : List Row → Rows
+columns xs = rows (map (λ (r : Row). r.head) xs) (map (λ (r : Row). r.level) xs) (map (λ (r : Row). r.fallback) xs)
+
+abbrev pub earlier_of : List Row → List ℕ
+earlier_of xs = map (λ (r : Row). r.earlier) xs
 
 abbrev pub Down : List ℕ → Type 0
 Down xs = (i : ℕ) → 0 < i → get_or xs i 0 < i

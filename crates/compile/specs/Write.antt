@@ -7,18 +7,17 @@
 --   edge_end B w n p    where the edge records of the places below p end
 --   Known B w n p out   the image has the first edges of all places, and the targets of the edges of those below p
 --   Starts B w n row    for each event the place that it leads to from place 0
---   EdgeNumber          the number of the edge with an event among some edges of the book
+--   Walkable            what a walk from the place p reads is there
+--   EdgeNumber B q a r  r is the number of the edge with the event a among the edges of the state q
 --   RestIs B w n p a r  r is the place of what the event makes of the rest of the chain of p
 use Rattle.std.specs.Prelude.{◌≡◌, List, [], ℕ, ◌+◌, ◌*◌, ◌≤◌, ◌<◌, length, get_or}
-use Rattle.std.proofs.Math.Option.{none, some}
+use Rattle.std.specs.Prelude.{Option, None, Some}
 use Rattle.std.proofs.lemmas.List.Edits.{sets}
 use Rattle.wire.specs.Little.{le16_at}
 use Rattle.meaning.specs.Chain.{step}
 use Rattle.meaning.specs.Places.{places, number}
-use Rattle.meaning.specs.Book.{Book, look, delta, outs, marks}
+use Rattle.meaning.specs.Book.{Book, delta, outs, marks}
 use Rattle.meaning.specs.Questions.{first_edge}
-use Rattle.book.specs.Form.{edge_record_at}
-use Rattle.book.specs.Model.{edges_from}
 use Rattle.compile.specs.Work.{Rows, chain_of, list_of, Held}
 use Rattle.compile.specs.Explore.{rest_after}
 use Rattle.meaning.specs.Answer.{Answer, leaving}
@@ -27,7 +26,7 @@ use Rattle.compile.specs.Answer.{chains_of, made_of, image_of_book}
 
 pub record Numbered (B : Book) (w : Rows) (n : ℕ) : Type 0 where
   pub held : Held w n
-  pub all : places (delta B) (outs B) 1024 ≡ some (list_of w n)
+  pub all : places (delta B) (outs B) 1024 ≡ Some (list_of w n)
   pub few_edges : first_edge (delta B) (outs B) (marks B) (list_of w n) n ≤ 4096
 
 abbrev pub EdgesAre : Book → Rows → ℕ → ℕ → Type 0
@@ -54,10 +53,16 @@ pub record Known (B : Book) (w : Rows) (n p : ℕ) (out : List ℕ) : Type 0 whe
 pub record Starts (B : Book) (w : Rows) (n : ℕ) (row : List ℕ) : Type 0 where
   pub at : (a : ℕ) → a < 256 → (get_or row a 0 < n) × (chain_of w (get_or row a 0) ≡ step (delta B) [] a)
 
--- edge r of n edges from edge j on has the event; there are not so many where none has it
-pub record EdgeNumber (t : List ℕ) (S j n a r : ℕ) : Type 0 where
-  pub hit : r < n → (edge_record_at t S (j + r)).event ≡ a
-  pub miss : n ≤ r → look (edges_from t S n j) a ≡ none
+-- p is a place, and what a walk from it reads is there: the image, and where the start leads
+pub record Walkable (B : Book) (w : Rows) (n p : ℕ) (row out : List ℕ) : Type 0 where
+  pub below : p < n
+  pub known : Known B w n p out
+  pub starts : 0 < p → Starts B w n row
+
+-- r is the number among the edges of the state q of the one with the event a; there is none where no edge has it
+abbrev pub EdgeNumber : Book → ℕ → ℕ → Option ℕ → Type 0
+EdgeNumber B q a None = delta B q a ≡ None
+EdgeNumber B q a (Some i) = (i < length (outs B q)) × (get_or (outs B q) i 0 ≡ a)
 
 pub record RestIs (B : Book) (w : Rows) (n p a r : ℕ) : Type 0 where
   pub below : r < n

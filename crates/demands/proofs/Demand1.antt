@@ -1,6 +1,6 @@
 -- DEMAND 1, proved: `demand1`. Assumes nothing.
 use mathlib.Core.Path.{◌≡◌, refl, sym}
-use mathlib.Core.Option.{Option, none, some}
+use Rattle.std.specs.Prelude.{Option, None, Some}
 use mathlib.Core.List.{List, [], ◌∷◌, ◌++◌}
 use Prim.Native.Nat.{ℕ, ◌-◌, ◌/◌}
 use native.Mathlib.Omega.{arith}
@@ -61,8 +61,8 @@ part_number log base end l =
     (accepted_in 21 24 offset (end - base - offset) 0 0)
 
 made_number : (B : Book) (room : ℕ) (o : Option (List Chain)) → Numbered 1 16 (made_of B room o)
-made_number B room none = refused_in 1 16 14 0 (omega arith, omega arith)
-made_number B room (some L) =
+made_number B room None = refused_in 1 16 14 0 (omega arith, omega arith)
+made_number B room (Some L) =
     let q = length L in
     let t = edge_count B L in
     let n = size_of form1 q t in

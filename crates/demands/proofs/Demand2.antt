@@ -1,7 +1,7 @@
 -- DEMAND 2, proved: `demand2`. `one_state`: the book of one state has no record on any log. Assumes nothing.
 use mathlib.Core.Path.{◌≡◌, sym, ap, ◌∙◌, subst}
 use mathlib.Core.Logic.{◌≢◌, ◌↔◌}
-use mathlib.Core.Option.{none}
+use Rattle.std.specs.Prelude.{None}
 use mathlib.Core.List.{List, [], map, Memᴰ}
 use Prim.Native.Nat.{ℕ, ◌+◌, ◌/◌, ◌≤◌, ◌<◌}
 use native.Mathlib.Omega.{arith}
@@ -70,7 +70,7 @@ pub one_state : (xs ys : List ℕ) (e : ℕ) → check_book xs ≡ accepted 1 e 
     → (base : ℕ) (log : List ℕ) (n : ℕ) (rs : List Record) → Ran ys base log n rs → rs ≡ []
 one_state xs ys e A K base log n rs R =
     let δ = delta (book_of xs) in
-    let quiet : (a : ℕ) → δ 0 a ≡ none =
+    let quiet : (a : ℕ) → δ 0 a ≡ None =
     λ a. by_option (δ 0 a) (λ f. f) (λ p f. let u = targets_up xs 1 e A 0 a p f in let v = u.0 in let w = u.1 in absurd (let z : ⊥ = omega arith in z)) in
     ran_is K base log R
     ∙ image_run_nothing δ (outs (book_of xs)) (marks (book_of xs)) (image_chains K) (delta_names (book_of xs)) (delta_only (book_of xs)) (numbers_of K)

@@ -1,6 +1,6 @@
 -- DEMAND 3, proved: `demand3`. Assumes nothing.
 use mathlib.Core.Path.{◌≡◌, refl, sym, ap, ◌∙◌, subst}
-use mathlib.Core.Option.{Option, none, some}
+use Rattle.std.specs.Prelude.{Option, None, Some}
 use mathlib.Core.List.{List, []}
 use Prim.Native.Nat.{ℕ, ◌<◌}
 use native.Mathlib.Omega.{arith}
@@ -50,12 +50,12 @@ module _ (xs : List ℕ) (A : Accepted xs) where
   chains_are = refl
 
   more_edges : (room : ℕ) → compile_answer xs room ≡ refused 15 0 → (o : Option (List Chain)) → chains_of (book_of xs) ≡ o → MoreEdges xs
-  more_edges room e none f =
+  more_edges room e None f =
       let over = (places_over (delta (book_of xs)) (outs (book_of xs)) (delta_names (book_of xs)) 1024).0 (sym chains_are ∙ f) in
       let g : refused 14 0 ≡ refused 15 0 = sym ((refused_14 xs A.2 room).1 over) ∙ e in
       let z : ◌≡◌ {A = ℕ} 14 15 = cc in
       absurd (let w : ⊥ = omega arith in w)
-  more_edges room e (some L) f = (L, sym chains_are ∙ f, (refused_15 xs A.2 room L f).0 e)
+  more_edges room e (Some L) f = (L, sym chains_are ∙ f, (refused_15 xs A.2 room L f).0 e)
 
   sized : Sized xs
   sized =

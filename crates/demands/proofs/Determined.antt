@@ -2,28 +2,35 @@
 --   fixed               it is equated with a definition
 --   decided             what it says is, and what an answer says keeps its cases apart
 --   decided_both        the same, and the memory is equated with a definition
---   byte, number, state_record, edge_record_lem, wrote  the contract is a record that does so, its answer's bounds besides
+--   byte, number, state_record, edge_record_lem, writes  the contract is a record that does so, its answer's bounds besides
 -- Assumes nothing.
-use mathlib.Core.Path.{◌≡◌, sym, ◌∙◌}
+use mathlib.Core.Path.{◌≡◌, sym, ap, ◌∙◌}
 use mathlib.Core.List.{List}
+use mathlib.Core.HLevel.{is_prop→PathP}
+use Rattle.std.proofs.Props.{props}
+use Rattle.image.specs.declared.Counts.{Counts}
 use Prim.Native.Nat.{ℕ}
 use Rattle.wire.specs.Little.{ByteIs, NumberIs}
-use Rattle.book.specs.Model.{led_to}
 use Rattle.book.specs.Rules.{told as told_book}
 use Rattle.book.specs.Reads.{StateIs, EdgeIs}
 use Rattle.book.specs.declared.StateRecord.{StateRecord}
 use Rattle.book.specs.declared.EdgeRecord.{EdgeRecord}
-use Rattle.book.proofs.Answers.{told_injective as book-apart, led_to_injective}
+use Rattle.book.proofs.Answers.{told_injective as book-apart}
 use Rattle.image.specs.Answers.{told_checked, told_asked, told_edged, told_walked, told_ran}
-use Rattle.image.specs.declared.Image.{Image}
+use Rattle.image.specs.Rules.{check_image}
+use Rattle.image.specs.Calls.{places_in, edges_in}
+use Rattle.image.specs.Opened.{lent}
+use Rattle.std.specs.Borrow.{Bor}
+use Rattle.image.specs.declared.open_image.Image.{Image}
 use Rattle.image.proofs.Told.{checked_apart, asked_apart, edged_apart, walked_apart, ran_apart}
 use Rattle.compile.specs.Answer.{told as told_compiled}
 use Rattle.compile.proofs.Answers.{told_injective as compiled-apart}
 use Rattle.lists.specs.Short.{short_told}
 use Rattle.lists.specs.Part.{part_told}
-use Rattle.lists.specs.Wrote.{Wrote}
+use Rattle.lists.specs.Writes.{Writes}
+use Rattle.lists.specs.declared.text.Text.{Text}
 use Rattle.lists.proofs.Told.{short_told_apart, part_told_apart}
-use Rattle.demands.specs.Determined.{One, OneBoth, OfWire, OfBook, OfImage, OfCompile, OfLists, Determined}
+use Rattle.demands.specs.Determined.{One, OneBoth, OneText, OfWire, OfBook, OfImage, OfCompile, OfLists, Determined}
 
 -- ---- the ways
 abbrev Apart : {A B : Type 0} → (A → B) → Type 0
@@ -51,11 +58,25 @@ state_record x r s h k = h.is ∙ sym k.is
 edge_record_lem : (x : EdgeRecord) → One (λ r. EdgeIs x r)
 edge_record_lem x r s h k = h.is ∙ sym k.is
 
-wrote : (out : List ℕ) (at : ℕ) (bytes : List ℕ) → OneBoth (λ r m. Wrote out at bytes m r)
-wrote out at bytes r s m n h k = (h.next ∙ sym k.next, h.memory ∙ sym k.memory)
+writes : (t : Text) (bytes : List ℕ) → OneText (λ r. Writes t bytes r)
+writes t bytes r s h k = (h.wrote.next ∙ sym k.wrote.next, h.wrote.memory ∙ sym k.wrote.memory)
 
-image_same : (x y : Image) → x.bytes ≡ y.bytes → x.places ≡ y.places → x.edges ≡ y.edges → x ≡ y
-image_same x y f g h = λ i. record { bytes = f i; places = g i; edges = h i }
+abbrev Counted : List ℕ → Counts → Type 0
+Counted xs c = (c.places ≡ places_in (check_image xs)) × (c.edges ≡ edges_in (check_image xs))
+
+-- the counts of an open image are those of its slice, and a fact about numbers has one proof
+image_same : (x y : Image) → lent x ≡ lent y → x ≡ y
+image_same x y e =
+    let checked : check_image (lent x).now ≡ check_image (lent y).now = ap (λ (b : Bor (List ℕ)). check_image b.now) e in
+    let places : x.counts.places ≡ y.counts.places = x.counted.0 ∙ ap places_in checked ∙ sym y.counted.0 in
+    let edges : x.counts.edges ≡ y.counts.edges = x.counted.1 ∙ ap edges_in checked ∙ sym y.counted.1 in
+    let counts : x.counts ≡ y.counts = λ i. record { places = places i; edges = edges i } in
+    λ i. record {
+      bytes = e i;
+      counts = counts i;
+      counted =
+          is_prop→PathP (λ j. Counted (e j).now (counts j)) (λ j. hlevel props) x.counted y.counted i;
+    }
 
 -- ---- the functions
 of_wire : OfWire
@@ -63,6 +84,7 @@ of_wire =
     record {
       byte_at = byte;
       le16 = λ xs at. number _ _;
+      pair = λ xs at there. number _ _;
       le32 = λ xs at. number _ _;
       put_byte = λ d at b. fixed _;
       put16 = λ d at v. fixed _;
@@ -81,8 +103,8 @@ of_book =
       mark_of = λ t S q. number _ _;
       count_of = λ t S q. number _ _;
       firsts = λ t S. fixed _;
-      lead = λ t S first q a. decided led_to led_to_injective _;
-      lead_rising = λ t S first q a up. decided led_to led_to_injective _;
+      lead = λ t S first q a. fixed _;
+      lead_rising = λ t S first q a up. fixed _;
     }
 
 of_image : OfImage
@@ -95,7 +117,7 @@ of_image =
       ask_edge = λ xs p a. decided told_edged edged_apart _;
       step = λ xs p a. decided told_walked walked_apart _;
       next_in_lem = λ xs q p a. decided told_walked walked_apart _;
-      open_image = λ lent x y h k. image_same x y (h.0 ∙ sym k.0) (h.1 ∙ sym k.1) (h.2 ∙ sym k.2);
+      open_image = λ slice x y h k. image_same x y (h ∙ sym k);
       fallback = λ M p. decided told_asked asked_apart _;
       level = λ M p. decided told_asked asked_apart _;
       mark = λ M p. decided told_asked asked_apart _;
@@ -114,14 +136,14 @@ of_lists =
       part_answer_lem = λ log base end l. decided part_told part_told_apart _;
       part = λ log base end l r s h k. h ∙ sym k;
       group = λ event. fixed _;
-      put_header = λ out at. wrote out at _;
-      put_line = λ out at end l mark letter. wrote out at _;
-      put_lines = λ out at records log. wrote out at _;
-      put_last = λ out at places steps. wrote out at _;
-      put_refused = λ out at n p. wrote out at _;
-      put_byte = λ out at byte. wrote out at _;
-      put_bytes = wrote;
-      put-decimal = λ out at n. wrote out at _;
+      put_header = λ t. writes t _;
+      put_line = λ t end l mark letter. writes t _;
+      put_lines = λ t records log. writes t _;
+      put_last = λ t places steps. writes t _;
+      put_refused = λ t n p. writes t _;
+      put_byte = λ t byte. writes t _;
+      put_bytes = writes;
+      put-decimal = λ t n. writes t _;
     }
 
 pub determined : Determined

@@ -3,7 +3,7 @@
 -- refused wrote; records_fit: its ends and lengths fit their bytes. Assumes nothing.
 use mathlib.Core.Path.{◌≡◌, refl, sym, ap, ◌∙◌, subst}
 use mathlib.Core.Bool.{Bool, true, false}
-use mathlib.Core.Option.{Option, none, some}
+use Rattle.std.specs.Prelude.{Option, None, Some}
 use mathlib.Core.List.{List, [], ◌∷◌, ◌++◌, map, Memᴰ}
 use Prim.Native.Nat.{ℕ, ◌+◌, ◌*◌, ◌/◌, ◌≤◌, ◌<◌}
 use native.Mathlib.Omega.{arith}
@@ -48,7 +48,7 @@ list_bytes-length (r ∷ rs) =
     let i = list_bytes-length rs in
     omega (arith, length-append (record_bytes r.end r.length r.mark) (list_bytes rs))
 
-no_fault : (b : Bool) → ◌≡◌ {A = Option ℕ} (when b (some 0) none) none → b ≡ false
+no_fault : (b : Bool) → ◌≡◌ {A = Option ℕ} (when b (Some 0) None) None → b ≡ false
 no_fault true e = none_some refl (sym e)
 no_fault false e = refl
 

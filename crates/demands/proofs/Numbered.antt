@@ -2,7 +2,7 @@
 -- the number of every refusal. Assumes nothing.
 use mathlib.Core.Path.{◌≡◌, subst}
 use mathlib.Core.Bool.{Bool, true, ◌&&◌}
-use mathlib.Core.Option.{Option, none, some}
+use Rattle.std.specs.Prelude.{Option, None, Some}
 use mathlib.Core.List.{List, [], ◌∷◌}
 use Prim.Native.Nat.{ℕ, ◌≤◌}
 use native.Mathlib.Omega.{arith}
@@ -25,8 +25,8 @@ module _ (low high : ℕ) where
   refused_in m q i n p e = let z : m ≡ n = cc in subst (λ (k : ℕ). (low ≤ k) × (k ≤ high)) z i
 
   faulty_in : (m : ℕ) (o : Option ℕ) (x : Answer) → (low ≤ m) × (m ≤ high) → Numbered low high x → Numbered low high (faulty m o x)
-  faulty_in m none x i k = k
-  faulty_in m (some q) x i k = refused_in m q i
+  faulty_in m None x i k = k
+  faulty_in m (Some q) x i k = refused_in m q i
 
   pub judged_in : (rs : List Rule) (x : Answer) → numbers_in low high rs ≡ true → Numbered low high x → Numbered low high (judged rs x)
   judged_in [] x t k = k

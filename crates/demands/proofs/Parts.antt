@@ -1,7 +1,7 @@
 -- THE PART OF A RECORD, proved: `parts_lead`. Assumes nothing.
 use mathlib.Core.Path.{◌≡◌, refl, sym, ap, ◌∙◌, subst}
 use mathlib.Core.Logic.{◌≢◌}
-use mathlib.Core.Option.{some}
+use Rattle.std.specs.Prelude.{Some}
 use mathlib.Core.List.{List, [], ◌∷◌, ◌++◌, Memᴰ}
 use Prim.Native.Nat.{ℕ, ◌+◌, ◌/◌, ◌≤◌}
 use native.Mathlib.Omega.{arith}
@@ -31,7 +31,7 @@ endings_same s w u v e l =
     sym (drop_at s w (length s) refl) ∙ ap (drop (length s)) e ∙ drop_at u v (length s) (sym k)
 
 -- a word that leads to another state than 0 has an event
-some_event : (δ : Delta) (w : Text) (q : ℕ) → read δ 0 w ≡ some q → q ≢ 0 → 1 ≤ length w
+some_event : (δ : Delta) (w : Text) (q : ℕ) → read δ 0 w ≡ Some q → q ≢ 0 → 1 ≤ length w
 some_event δ [] q e nz = absurd (nz (let z : q ≡ 0 = cc in z))
 some_event δ (a ∷ w) q e nz = omega arith
 

@@ -4,7 +4,7 @@
 -- log reaches each place. A compile of an accepted book is refused for size exactly when there are over 1,024 such chains,
 -- the empty one counted, or their places need over 4,096 edges.
 use Rattle.std.specs.Prelude.{◌≡◌, ◌↔◌, List, ℕ, ◌<◌}
-use Rattle.std.proofs.Math.Option.{some}
+use Rattle.std.specs.Prelude.{Some}
 use Rattle.meaning.specs.Text.{events}
 use Rattle.meaning.specs.Answer.{refused}
 use Rattle.meaning.specs.Chain.{Chain, IsChain}
@@ -29,7 +29,7 @@ pub record InStep (xs ys : List ℕ) : Type 0 where
 -- the places, numbered as document 01 numbers them, are at most 1,024 and need over 4,096 edges
 abbrev pub MoreEdges : List ℕ → Type 0
 MoreEdges xs =
-    (L : List Chain) × (places (delta (book_of xs)) (outs (book_of xs)) 1024 ≡ some L) × (4096 < edge_count (book_of xs) L)
+    (L : List Chain) × (places (delta (book_of xs)) (outs (book_of xs)) 1024 ≡ Some L) × (4096 < edge_count (book_of xs) L)
 
 pub record Sized (xs : List ℕ) : Type 0 where
   pub places : (room : ℕ) → (compile_answer xs room ≡ refused 14 0) ↔ MoreThan (delta (book_of xs)) 1024

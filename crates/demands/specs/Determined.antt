@@ -3,38 +3,41 @@
 -- and numbers: two outcomes that meet the contract are equal. That it is the source's contract is proved in proofs/, `Tied`.
 --   One P               at most one answer meets the contract P
 --   OneBoth P           at most one answer, with one memory at exit, meets it
+--   OneText P           at most one text at exit meets it
 --   Opened .. NextIs    the contracts of the open image, of its methods and of a walk's
 --   OfWire .. OfLists   the public functions of a crate
 --   Determined          THE STATEMENT: all of them. The face and the program take a field each here.
 -- A lent slice that is not `&mut` cannot change, and so no contract speaks of it at exit.
 -- Exceptions:
+--   wire::pair          requires that both bytes are there. Where they are, its answer is fixed, and it is that of `wire::le16`,
+--                       which asks nothing. It is there for speed.
 --   book::lead_rising   requires that the state's events rise. Where they do, its answer is fixed; of any other input its
 --                       contract says nothing. It is there for speed: `book::lead` asks nothing and is fixed for every input.
 --   lists::part         fixed are the bytes of the part returned, not its address. Where in the log it stands is what
 --                       `part_answer` says, and that is fixed.
-use Rattle.std.specs.Prelude.{◌≡◌, List, [], ◌∷◌, ℕ, length, set}
+use Rattle.std.specs.Prelude.{◌≡◌, List, [], ◌∷◌, ℕ, ◌+◌, ◌<◌, length, set, Option, Result}
 use Rattle.std.specs.Borrow.{Bor}
 use Rattle.wire.specs.Little.{ByteIs, NumberIs, le16_at, le32_at, put16_at, put32_at}
 use Rattle.meaning.specs.Book.{outs, marks}
+use Rattle.meaning.specs.declared.Refusal.{Refusal}
 use Rattle.book.specs.Form.{table_at, state_record_at, edge_record_at}
-use Rattle.book.specs.Model.{table_book, firsts_of, Rising, led_to, lead_of}
+use Rattle.book.specs.Model.{table_book, firsts_of, Rising, lead_of}
 use Rattle.book.specs.Rules.{check_book, told as told_book}
 use Rattle.book.specs.Reads.{StateIs, EdgeIs}
 use Rattle.image.specs.Rules.{check_image}
 use Rattle.image.specs.Answers.{told_checked, told_asked, told_edged, told_walked, told_ran}
-use Rattle.image.specs.Calls.{checked_first, places_in, edges_in, fallback_in, level_in, mark_in, edge_in, next_in}
+use Rattle.image.specs.Calls.{checked_first, opened, fallback_in, level_in, mark_in, edge_in, next_in}
 use Rattle.image.specs.Calls.{run_answer, run_memory}
-use Rattle.image.specs.declared.Image.{Image}
-use Rattle.image.specs.declared.Asked.{Asked}
-use Rattle.image.specs.declared.Edged.{Edged}
+use Rattle.image.specs.Opened.{lent}
+use Rattle.image.specs.declared.open_image.Image.{Image}
 use Rattle.image.specs.declared.Walk.{Walk}
-use Rattle.image.specs.declared.Walked.{Walked}
 use Rattle.compile.specs.Answer.{compile_answer, compile_memory, told as told_compiled}
 use Rattle.lists.specs.Whole.{decoded}
 use Rattle.lists.specs.Short.{short_told, short_answer, short_memory}
 use Rattle.lists.specs.Part.{part_told, part_answer, part_of}
 use Rattle.lists.specs.Group.{group_of}
-use Rattle.lists.specs.Wrote.{Wrote}
+use Rattle.lists.specs.Writes.{Writes}
+use Rattle.lists.specs.declared.text.Text.{Text}
 use Rattle.lists.specs.Decimal.{decimal}
 use Rattle.lists.specs.Listing.{header_text, line_text, lines_text, last_text, refused_text}
 
@@ -44,10 +47,15 @@ One {A} P = (r s : A) → P r → P s → r ≡ s
 abbrev pub OneBoth : {A : Type 0} → (A → List ℕ → Type 0) → Type 0
 OneBoth {A} P = (r s : A) (m n : List ℕ) → P r m → P s n → (r ≡ s) × (m ≡ n)
 
+-- a text at exit: its buffer, and the place after what was written
+abbrev pub OneText : (Text → Type 0) → Type 0
+OneText P = (r s : Text) → P r → P s → (r.at ≡ s.at) × (r.out.now ≡ s.out.now)
+
 -- a writer has no answer: its outcome is the memory at exit
 pub record OfWire : Type 0 where
   pub byte_at : (xs : List ℕ) (at : ℕ) → One (λ r. ByteIs xs at r)
   pub le16 : (xs : List ℕ) (at : ℕ) → One (λ r. NumberIs (le16_at xs at) 65536 r)
+  pub pair : (xs : List ℕ) (at : ℕ) → at + 1 < length xs → One (λ r. NumberIs (le16_at xs at) 65536 r)
   pub le32 : (xs : List ℕ) (at : ℕ) → One (λ r. NumberIs (le32_at xs at) 4294967296 r)
   pub put_byte : (d : List ℕ) (at b : ℕ) → One (λ d'. d' ≡ set d at b)
   pub put16 : (d : List ℕ) (at v : ℕ) → One (λ d'. d' ≡ put16_at d at v)
@@ -63,29 +71,28 @@ pub record OfBook : Type 0 where
   pub mark_of : (t : List ℕ) (S q : ℕ) → One (λ r. NumberIs (marks (table_book t S) q) 256 r)
   pub count_of : (t : List ℕ) (S q : ℕ) → One (λ r. NumberIs (length (outs (table_book t S) q)) 65536 r)
   pub firsts : (t : List ℕ) (S : ℕ) → One (λ r. r ≡ firsts_of (table_book t S))
-  pub lead : (t : List ℕ) (S : ℕ) (first : List ℕ) (q a : ℕ) → One (λ r. led_to r ≡ lead_of t S first q a)
+  pub lead : (t : List ℕ) (S : ℕ) (first : List ℕ) (q a : ℕ) → One (λ r. r ≡ lead_of t S first q a)
   pub lead_rising : (t : List ℕ) (S : ℕ) (first : List ℕ) (q a : ℕ)
-      → Rising t S first q → One (λ r. led_to r ≡ lead_of t S first q a)
+      → Rising t S first q → One (λ r. r ≡ lead_of t S first q a)
 
 -- what the contracts of the open image say: of its opening, of its methods, of a walk's next event
 abbrev pub Opened : Bor (List ℕ) → Image → Type 0
-Opened lent r =
-    (r.bytes ≡ lent) × (r.places ≡ places_in (check_image lent.now)) × (r.edges ≡ edges_in (check_image lent.now))
+Opened slice r = lent r ≡ slice
 
-abbrev pub FallbackIs : Image → ℕ → Asked → Type 0
-FallbackIs M p r = told_asked r ≡ fallback_in M.bytes.now M.places p
+abbrev pub FallbackIs : Image → ℕ → Result ℕ Refusal → Type 0
+FallbackIs M p r = told_asked r ≡ fallback_in (lent M).now (opened (lent M).now) p
 
-abbrev pub LevelIs : Image → ℕ → Asked → Type 0
-LevelIs M p r = told_asked r ≡ level_in M.bytes.now M.places p
+abbrev pub LevelIs : Image → ℕ → Result ℕ Refusal → Type 0
+LevelIs M p r = told_asked r ≡ level_in (lent M).now (opened (lent M).now) p
 
-abbrev pub MarkIs : Image → ℕ → Asked → Type 0
-MarkIs M p r = told_asked r ≡ mark_in M.bytes.now M.places p
+abbrev pub MarkIs : Image → ℕ → Result ℕ Refusal → Type 0
+MarkIs M p r = told_asked r ≡ mark_in (lent M).now (opened (lent M).now) p
 
-abbrev pub EdgeLeads : Image → ℕ → ℕ → Edged → Type 0
-EdgeLeads M p a r = told_edged r ≡ edge_in M.bytes.now M.places p a
+abbrev pub EdgeLeads : Image → ℕ → ℕ → Result (Option ℕ) Refusal → Type 0
+EdgeLeads M p a r = told_edged r ≡ edge_in (lent M).now (opened (lent M).now) p a
 
-abbrev pub NextIs : Walk → Image → ℕ → Walked → Type 0
-NextIs w M a r = told_walked r ≡ next_in M.bytes.now M.places w.place a
+abbrev pub NextIs : Walk → Image → ℕ → Result Walk Refusal → Type 0
+NextIs w M a r = told_walked r ≡ next_in (lent M).now (opened (lent M).now) w.place a
 
 pub record OfImage : Type 0 where
   pub check_image_lem : (xs : List ℕ) → One (λ r. told_checked r ≡ check_image xs)
@@ -96,7 +103,7 @@ pub record OfImage : Type 0 where
   pub step : (xs : List ℕ) (p a : ℕ) → One (λ r. told_walked r ≡ checked_first xs (λ q. next_in xs q p a))
   pub next_in_lem : (xs : List ℕ) (q p a : ℕ) → One (λ r. told_walked r ≡ next_in xs q p a)
   -- the open image holds the very slice that was lent
-  pub open_image : (lent : Bor (List ℕ)) → One (λ r. Opened lent r)
+  pub open_image : (slice : Bor (List ℕ)) → One (λ r. Opened slice r)
   -- its methods, and those of a walk
   pub fallback : (M : Image) (p : ℕ) → One (λ r. FallbackIs M p r)
   pub level : (M : Image) (p : ℕ) → One (λ r. LevelIs M p r)
@@ -118,16 +125,15 @@ pub record OfLists : Type 0 where
   pub part : (log : List ℕ) (base end l : ℕ) (r s : Bor (List ℕ))
       → r.now ≡ part_of log base end l → s.now ≡ part_of log base end l → r.now ≡ s.now
   pub group : (event : ℕ) → One (λ r. r ≡ group_of event)
-  -- the listing's lines; the memory, and the place after what was written
-  pub put_header : (out : List ℕ) (at : ℕ) → OneBoth (λ r m. Wrote out at header_text m r)
-  pub put_line : (out : List ℕ) (at end l mark letter : ℕ) → OneBoth (λ r m. Wrote out at (line_text end l mark letter) m r)
-  pub put_lines : (out : List ℕ) (at : ℕ) (records log : List ℕ)
-      → OneBoth (λ r m. Wrote out at (lines_text (decoded records) log) m r)
-  pub put_last : (out : List ℕ) (at places steps : ℕ) → OneBoth (λ r m. Wrote out at (last_text places steps) m r)
-  pub put_refused : (out : List ℕ) (at n p : ℕ) → OneBoth (λ r m. Wrote out at (refused_text n p) m r)
-  pub put_byte : (out : List ℕ) (at byte : ℕ) → OneBoth (λ r m. Wrote out at (byte ∷ []) m r)
-  pub put_bytes : (out : List ℕ) (at : ℕ) (bytes : List ℕ) → OneBoth (λ r m. Wrote out at bytes m r)
-  pub put-decimal : (out : List ℕ) (at n : ℕ) → OneBoth (λ r m. Wrote out at (decimal n) m r)
+  -- the listing's lines, and what they are made of
+  pub put_header : (t : Text) → OneText (λ r. Writes t header_text r)
+  pub put_line : (t : Text) (end l mark letter : ℕ) → OneText (λ r. Writes t (line_text end l mark letter) r)
+  pub put_lines : (t : Text) (records log : List ℕ) → OneText (λ r. Writes t (lines_text (decoded records) log) r)
+  pub put_last : (t : Text) (places steps : ℕ) → OneText (λ r. Writes t (last_text places steps) r)
+  pub put_refused : (t : Text) (n p : ℕ) → OneText (λ r. Writes t (refused_text n p) r)
+  pub put_byte : (t : Text) (byte : ℕ) → OneText (λ r. Writes t (byte ∷ []) r)
+  pub put_bytes : (t : Text) (bytes : List ℕ) → OneText (λ r. Writes t bytes r)
+  pub put-decimal : (t : Text) (n : ℕ) → OneText (λ r. Writes t (decimal n) r)
 
 pub record Determined : Type 0 where
   pub of_wire : OfWire

@@ -4,7 +4,7 @@
 --                       state with the record's mark
 --   PartsLead           so it is for every record of every such run
 use Rattle.std.specs.Prelude.{◌≡◌, ℕ, ◌+◌, take}
-use Rattle.std.proofs.Math.Option.{some}
+use Rattle.std.specs.Prelude.{Some}
 use mathlib.Core.List.{List, ◌++◌, Memᴰ}
 use Rattle.meaning.specs.Text.{Delta, Marks, events, read}
 use Rattle.meaning.specs.Book.{delta, marks}
@@ -16,7 +16,7 @@ use Rattle.demands.specs.Words.{Compiled, Ran}
 pub record Leading (δ : Delta) (mark : Marks) (base : ℕ) (log : List ℕ) (r : Record) : Type 0 where
   pub state : ℕ
   pub its_mark : mark state ≡ r.mark
-  pub leads : read δ 0 (events (part_of log base r.end r.length)) ≡ some state
+  pub leads : read δ 0 (events (part_of log base r.end r.length)) ≡ Some state
   pub before : List ℕ
   pub bytes : ℕ
   pub at_end : r.end ≡ base + bytes

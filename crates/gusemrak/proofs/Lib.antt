@@ -1,3 +1,2 @@
--- `Said`: what the face says of a call's answer. `Determined`: no second outcome.
-pub mod Said
+-- `Determined`: no second outcome.
 pub mod Determined

@@ -2,7 +2,8 @@
 #![tactic(auto)]
 
 ghost use Rattle.std.specs.Prelude.{◌≡◌, length};
-ghost use Rattle.meaning.specs.Answer.{accepted, refused};
+ghost use Rattle.meaning.specs.Answer.{accepted};
+ghost use Rattle.meaning.specs.Refusal.{refusing};
 ghost use Rattle.book.specs.Rules.{check_book};
 ghost use Rattle.image.specs.Answers.{told_asked};
 ghost use Rattle.image.specs.Rules.{check_image};
@@ -13,9 +14,11 @@ ghost use Rattle.lists.specs.Part.{part_answer};
 ghost use Rattle.lists.specs.Group.{group_of};
 ghost use Rattle.gusemrak.specs.Face.{face};
 
+use meaning::Refusal;
+
 // Number 0 where a call is not refused; the numbers that an answer does not have are 0.
 #[repr(C)]
-#[derive(Clone, Copy)]
+#[derive(Clone, Copy, Debug, PartialEq, Eq)]
 pub struct Answer {
     pub number: u32,
     pub place: u32,
@@ -38,16 +41,18 @@ fn fine(a: usize, b: usize, c: usize, d: usize) -> Answer
     }
 }
 
-fn refusal(number: u32, place: u32) -> Answer
-    ensures { result ≡ face (refused number place) }
-{
-    Answer {
-        number,
-        place,
-        a: 0,
-        b: 0,
-        c: 0,
-        d: 0,
+impl From<Refusal> for Answer {
+    ghost from_gives = { λ e r. r ≡ face (refusing e) };
+
+    fn from(e: Refusal) -> Answer {
+        Answer {
+            number: e.reason as u32,
+            place: e.place,
+            a: 0,
+            b: 0,
+            c: 0,
+            d: 0,
+        }
     }
 }
 
@@ -57,8 +62,8 @@ pub extern "C" fn gusemrak_check_book(book: &[u8]) -> Answer
     ensures { result ≡ face (check_book book.now) }
 {
     match book::check_book(book) {
-        book::Checked::Fine { states, edges } => fine(states, edges, 0, 0),
-        book::Checked::Refused { number, place } => refusal(number, place),
+        Ok(counts) => fine(counts.states, counts.edges, 0, 0),
+        Err(e) => e.into(),
     }
 }
 
@@ -69,12 +74,8 @@ pub extern "C" fn gusemrak_compile(book: &[u8], out: &mut [u8]) -> Answer
     ensures memory { out.new ≡ compile_memory book.now out.old }
 {
     match compile::compile(book, out) {
-        compile::Compiled::Made {
-            length,
-            places,
-            edges,
-        } => fine(length, places, edges, 0),
-        compile::Compiled::Refused { number, place } => refusal(number, place),
+        Ok(made) => fine(made.length, made.places, made.edges, 0),
+        Err(e) => e.into(),
     }
 }
 
@@ -84,18 +85,18 @@ pub extern "C" fn gusemrak_check_image(image: &[u8]) -> Answer
     ensures { result ≡ face (check_image image.now) }
 {
     match image::check_image(image) {
-        image::Checked::Fine { places, edges } => fine(places as usize, edges as usize, 0, 0),
-        image::Checked::Refused { number, place } => refusal(number, place),
+        Ok(counts) => fine(counts.places as usize, counts.edges as usize, 0, 0),
+        Err(e) => e.into(),
     }
 }
 
 // What was asked of an image.
-fn asked(answer: image::Asked) -> Answer
+fn asked(answer: Result<u32, Refusal>) -> Answer
     ensures { result ≡ face (told_asked answer) }
 {
     match answer {
-        image::Asked::Is(number) => fine(number as usize, 0, 0, 0),
-        image::Asked::Refused { number, place } => refusal(number, place),
+        Ok(number) => fine(number as usize, 0, 0, 0),
+        Err(e) => e.into(),
     }
 }
 
@@ -129,9 +130,9 @@ pub extern "C" fn gusemrak_edge(image: &[u8], place: u32, event: u8) -> Answer
     ensures { result ≡ face (checked_first image.now (λ q. edge_in image.now q place event)) }
 {
     match image::ask_edge(image, place, event) {
-        image::Edged::To(target) => fine(1, target as usize, 0, 0),
-        image::Edged::Nothing => fine(0, 0, 0, 0),
-        image::Edged::Refused { number, place } => refusal(number, place),
+        Ok(Some(target)) => fine(1, target as usize, 0, 0),
+        Ok(None) => fine(0, 0, 0, 0),
+        Err(e) => e.into(),
     }
 }
 
@@ -141,13 +142,13 @@ pub extern "C" fn gusemrak_step(image: &[u8], place: u32, event: u8) -> Answer
     ensures { result ≡ face (checked_first image.now (λ q. next_in image.now q place event)) }
 {
     match image::step(image, place, event) {
-        image::Walked::On(walk) => fine(
+        Ok(walk) => fine(
             walk.place as usize,
             walk.level as usize,
             walk.steps as usize,
             0,
         ),
-        image::Walked::Refused { number, place } => refusal(number, place),
+        Err(e) => e.into(),
     }
 }
 
@@ -164,13 +165,8 @@ pub extern "C" fn gusemrak_run(
     ensures memory { out.new ≡ run_memory image.now place base log.now out.old }
 {
     match image::run(image, place, base, log, out) {
-        image::Ran::Done {
-            taken,
-            place,
-            records,
-            steps,
-        } => fine(taken, place as usize, records, steps),
-        image::Ran::Refused { number, place } => refusal(number, place),
+        Ok(ran) => fine(ran.taken, ran.place as usize, ran.records, ran.steps),
+        Err(e) => e.into(),
     }
 }
 
@@ -181,8 +177,8 @@ pub extern "C" fn gusemrak_short_list(list: &[u8], out: &mut [u8]) -> Answer
     ensures memory { out.new ≡ short_memory list.now out.old }
 {
     match lists::short_list(list, out) {
-        lists::Short::Kept(records) => fine(records, 0, 0, 0),
-        lists::Short::Refused { number, place } => refusal(number, place),
+        Ok(records) => fine(records, 0, 0, 0),
+        Err(e) => e.into(),
     }
 }
 
@@ -192,8 +188,8 @@ pub extern "C" fn gusemrak_part(log: &[u8], base: u32, end: u32, length: u32) ->
     ensures { result ≡ face (part_answer log.now base end length) }
 {
     match lists::part_answer(log, base, end, length) {
-        lists::Named::Fine { offset, length } => fine(offset, length, 0, 0),
-        lists::Named::Refused { number, place } => refusal(number, place),
+        Ok(named) => fine(named.offset, named.length, 0, 0),
+        Err(e) => e.into(),
     }
 }
 

@@ -1,18 +1,23 @@
 -- A call that checks the image first: what is refused, and what is asked of an accepted image.
 --   judged_refused, judged_accepted     the rules refuse, or let pass, whatever is judged after them
 --   first_refused, first_accepted       the same of an image's rules
+--   told_err                            what is refused again
 --   held                                an accepted image, as the private functions require it
 -- Assumes nothing.
 use mathlib.Core.Path.{◌≡◌, refl, sym, ap, ◌∙◌}
 use mathlib.Core.List.{List, [], ◌∷◌}
 use Prim.Native.Nat.{ℕ}
+use Rattle.std.specs.Prelude.{Result, Ok, Err, IsErrAnd}
 use Rattle.meaning.specs.Answer.{Answer, accepted, refused, Rule, judged}
+use Rattle.meaning.specs.Refusal.{refusing, told}
+use Rattle.meaning.specs.declared.Refusal.{Refusal}
 use Rattle.meaning.proofs.Cases.{by_option}
+use Rattle.meaning.proofs.Refused.{refused_accepted}
 use Rattle.image.specs.Form.{form1}
 use Rattle.image.specs.Rules.{image_rules, check_image}
 use Rattle.image.specs.Calls.{checked_first}
 use Rattle.image.specs.Held.{Accepted, edges_of}
-use Rattle.image.proofs.Verdict.{refused_accepted, check_passed}
+use Rattle.image.proofs.Verdict.{check_passed}
 use Rattle.image.proofs.Accepted.{facts}
 
 pub judged_refused : (rs : List Rule) (a b c d n p : ℕ) (y : Answer) → judged rs (accepted a b c d) ≡ refused n p
@@ -39,6 +44,12 @@ module _ (xs : List ℕ) (ask : ℕ → Answer) where
   first_accepted q t e =
       judged_accepted (image_rules form1 xs) _ _ _ _ q t 0 0 _ (sym e)
       ∙ ap ask (sym (check_passed xs q t 0 0 (sym e)).place_count)
+
+-- what is refused again, as a `?` does
+pub told_err : {A : Type 0} (f : A → Answer) (r : Result A Refusal) (e : Refusal) (a : Answer) → IsErrAnd r (λ d. d ≡ e)
+    → refusing e ≡ a → told f r ≡ a
+told_err f (Ok x) e a h g = absurd h
+told_err f (Err d) e a h g = ap refusing h ∙ g
 
 -- what the private functions require
 pub held : (xs : List ℕ) (q t : ℕ) → accepted q t 0 0 ≡ check_image xs → Accepted xs q

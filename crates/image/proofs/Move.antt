@@ -1,12 +1,12 @@
 -- One event over an accepted image, on plain values.
---   found_is            what a search of a place's edges answers
+--   found_below         an edge that is found is one of the edges
 --   Moving              the invariant: the walk from place p with n failure steps behind it
 --   idle_next           an event that stays at place 0
---   move_start, move_fail, move_edge, move_root  the turns of the loop, and its ends
+--   move_fail, move_edge, move_root  the turns of the loop, and its ends
 -- Assumes nothing.
-use mathlib.Core.Path.{◌≡◌, refl, sym, ap, ◌∙◌}
+use mathlib.Core.Path.{◌≡◌, sym, ap, ◌∙◌}
 use mathlib.Core.Logic.{◌≢◌}
-use mathlib.Core.Option.{Option, none, some}
+use Rattle.std.specs.Prelude.{Option, None, Some}
 use mathlib.Core.List.{List}
 use Prim.Native.Nat.{ℕ, suc, ◌+◌, ◌≤◌, ◌<◌}
 use native.Mathlib.Omega.{arith}
@@ -14,11 +14,10 @@ use lib.ListN.{get_or}
 use Rattle.meaning.specs.Choice.{then}
 use Rattle.meaning.specs.Questions.{Image, edge_of}
 use Rattle.meaning.specs.Walk.{Stand, next}
-use Rattle.meaning.proofs.Cases.{by_option}
 use Rattle.meaning.proofs.Walk.{next_edge, next_fail, next-below, next_failed}
 use Rattle.image.specs.Form.{form1, edge_at}
 use Rattle.image.specs.Questions.{questions_at}
-use Rattle.image.specs.Held.{no_edge, edge_or, FoundIs, IsRoot, Idle, MovedIs}
+use Rattle.image.specs.Held.{IsRoot, Idle, MovedIs}
 use Rattle.image.proofs.Seek.{seek_found}
 use Rattle.image.proofs.Accepted.{Facts, levels}
 
@@ -37,33 +36,19 @@ module _ (xs : List ℕ) (q t : ℕ) (F : Facts xs q t) where
   abbrev N : Image
   N = questions_at form1 xs q
 
-  pub found_is : (p a r : ℕ) → p < q → r ≡ edge_or (N.find p a) → FoundIs (N.find p a) t r
-  found_is p a r b e =
-      by_option (N.find p a)
-      (λ f.
-      let g : r ≡ no_edge = e ∙ ap edge_or f in
-      record { missing = λ z. f; found = λ nz. absurd (nz g) })
-      (λ k f.
-      let g : r ≡ k = e ∙ ap edge_or f in
-      let s = seek_found (edge_at form1 xs q) a _ _ k f in
-      let l = s.1 in
+  pub found_below : (p a j : ℕ) → p < q → N.find p a ≡ Some j → j < t
+  found_below p a j b e =
+      let l = (seek_found (edge_at form1 xs q) a _ _ j e).1 in
       let i = F.inside p b in
-      let m = F.few_edges in
-      record {
-        missing = λ z. absurd (let w : ⊥ = omega arith in w);
-        found = λ nz. (f ∙ ap {B = Option ℕ} some (sym g), omega arith);
-      })
-
-  pub move_start : (p a : ℕ) → p < q → Moving xs q p a p 0
-  move_start p a b = record { below = b; few = omega arith; place = refl; steps = omega arith }
+      omega arith
 
   -- no edge: on to the fallback, with one failure step more
-  pub move_fail : (p₀ a p n f : ℕ) → Moving xs q p₀ a p n → p ≢ 0 → N.find p a ≡ none → f ≡ N.fallback p
+  pub move_fail : (p₀ a p n f : ℕ) → Moving xs q p₀ a p n → p ≢ 0 → N.find p a ≡ None → f ≡ N.fallback p
       → (f < p) × Moving xs q p₀ a f (n + 1)
   move_fail p₀ a p n f W nz e h =
       let L = levels xs q t F in
       let d = L.lower p W.below nz in
-      let g : edge_of N p a ≡ none = ap (λ (o : Option ℕ). then o (λ j. some (N.target j))) e in
+      let g : edge_of N p a ≡ None = ap (λ (o : Option ℕ). then o (λ j. Some (N.target j))) e in
       let s = next_fail N L.lower p a W.below nz g in
       let s1 : (next N p a).place ≡ (next N (N.fallback p) a).place = ap (λ (w : Stand). w.place) s in
       let s2 : (next N p a).failed ≡ suc (next N (N.fallback p) a).failed = ap (λ (w : Stand). w.failed) s in
@@ -73,11 +58,11 @@ module _ (xs : List ℕ) (q t : ℕ) (F : Facts xs q t) where
       (omega arith, rw h (record { below = omega arith; few = omega arith; place = W.place ∙ s1; steps = omega arith }))
 
   -- an edge: its target
-  pub move_edge : (p₀ a p n j r : ℕ) → Moving xs q p₀ a p n → N.find p a ≡ some j → r ≡ N.target j
+  pub move_edge : (p₀ a p n j r : ℕ) → Moving xs q p₀ a p n → N.find p a ≡ Some j → r ≡ N.target j
       → MovedIs (next N p₀ a) q p₀ (record { place = r; steps = n })
   move_edge p₀ a p n j r W e h =
       let L = levels xs q t F in
-      let g : edge_of N p a ≡ some (N.target j) = ap (λ (o : Option ℕ). then o (λ j. some (N.target j))) e in
+      let g : edge_of N p a ≡ Some (N.target j) = ap (λ (o : Option ℕ). then o (λ j. Some (N.target j))) e in
       let s = next_edge N p a (N.target j) g in
       let s1 : (next N p a).place ≡ N.target j = ap (λ (w : Stand). w.place) s in
       let s2 : (next N p a).failed ≡ 0 = ap (λ (w : Stand). w.failed) s in

@@ -1,15 +1,17 @@
 -- The open image: its counts are those of the check, and its answers are the image's questions. A refused image has
 -- no places, and answers 20 to everything.
---   edges_opened        the edge count is the check's
+--   lent_apart          the slice that was lent says all of an open image
 --   opened_refused, opened_accepted  no places exactly where the image is refused
 --   opened-asked        of an accepted image's place: fallback, level, mark, edge and the next walk
 --   opened_nothing      of a refused image: 20
 -- Assumes nothing.
 use mathlib.Core.Path.{◌≡◌, refl, sym, ap, ◌∙◌}
 use mathlib.Core.List.{List}
+use mathlib.Core.HLevel.{is_prop→PathP}
+use Rattle.std.proofs.Props.{props}
+use Rattle.std.specs.Borrow.{Bor}
 use Prim.Native.Nat.{ℕ, ◌≤◌, ◌<◌}
 use native.Mathlib.Omega.{arith}
-use borrow.Author.Tests.{ne_eqb}
 use Rattle.meaning.specs.Answer.{Answer, accepted, refused}
 use Rattle.meaning.specs.Questions.{Image, edge_of}
 use Rattle.meaning.specs.Walk.{next}
@@ -17,23 +19,30 @@ use Rattle.image.specs.Form.{form1}
 use Rattle.image.specs.Rules.{check_image}
 use Rattle.image.specs.Questions.{questions_at, questions}
 use Rattle.image.specs.Calls.{places_in, edges_in, fallback_in, level_in, mark_in, edge_told, edge_in, walk_told, next_in}
-use Rattle.image.specs.Held.{edges_for}
-use Rattle.image.proofs.Verdict.{check_passed}
+use Rattle.image.specs.Opened.{lent}
+use Rattle.meaning.proofs.Refused.{Apart}
 use Rattle.image.proofs.Accepted.{facts}
 use Rattle.image.proofs.Asking.{place_refused, place_known}
+
+-- what was lent says all of an open image
+pub lent_apart : Apart lent
+lent_apart M N e =
+    let f : M.counts.places ≡ N.counts.places =
+    M.counted.0 ∙ ap (λ (b : Bor (List ℕ)). places_in (check_image b.now)) e ∙ sym N.counted.0 in
+    let g : M.counts.edges ≡ N.counts.edges =
+    M.counted.1 ∙ ap (λ (b : Bor (List ℕ)). edges_in (check_image b.now)) e ∙ sym N.counted.1 in
+    λ i.
+    record {
+      bytes = e i;
+      counts = record { places = f i; edges = g i };
+      counted = is_prop→PathP
+          (λ j. (f j ≡ places_in (check_image (e j).now)) × (g j ≡ edges_in (check_image (e j).now)))
+          (λ j. hlevel props) M.counted N.counted i;
+    }
 
 by_answer : {A : Type 0} (x : Answer) → ((a b c d : ℕ) → x ≡ accepted a b c d → A) → ((n p : ℕ) → x ≡ refused n p → A) → A
 by_answer (accepted a b c d) f g = f a b c d refl
 by_answer (refused n p) f g = g n p refl
-
-pub edges_opened : (xs : List ℕ) → edges_for xs (places_in (check_image xs)) ≡ edges_in (check_image xs)
-unfolding edges_for
-edges_opened xs =
-    by_answer (check_image xs)
-    (λ q t a b e.
-    let s = (facts xs q t a b e).some_place in
-    rw (e, ne_eqb q 0 (λ z. let w : ⊥ = omega arith in w)) (sym (check_passed xs q t a b e).edge_count))
-    (λ n p e. rw e)
 
 -- no places exactly where the image is refused
 pub opened_refused : (xs : List ℕ) (n p : ℕ) → check_image xs ≡ refused n p → places_in (check_image xs) ≡ 0

@@ -1,18 +1,17 @@
 -- The table of every step: its classes, its rows, what an entry says.
---   Classing, class_start, class_known, class_new  the classes, one more edge
+--   Classing, class_start  the classes of the edges passed
 --   copy_start, copy_turn  a row copied, one more entry
 --   own_start, own_turn  a place's own edges, from the last to the first
 --   row_in              a row ends before the next one starts
 --   RowsBelow, rows-zero, row_copied, rows_more, rows_done  the row of place 0, one more row, all of them
---   looked, entry_in    what an entry says, and that it stands in the table
---   few_entries         the product of the two counts is small
+--   looked              what an entry says
 -- Assumes nothing.
-use mathlib.Core.Path.{◌≡◌, refl, sym, ap, ◌∙◌}
+use mathlib.Core.Path.{◌≡◌, refl, ap, ◌∙◌}
 use mathlib.Core.Logic.{◌≢◌}
-use mathlib.Core.Option.{Option, none, some}
+use Rattle.std.specs.Prelude.{Option, None, Some}
 use mathlib.Core.List.{List}
 use Prim.Native.Nat.{ℕ, zero, suc, ◌+◌, ◌*◌, ◌-◌, ◌/◌, ◌%◌, ◌≤◌, ◌<◌}
-use native.Mathlib.Nat.{zero-add, mul-zero, mul-suc, mul-le-mul_left, mul-le-mul}
+use native.Mathlib.Nat.{zero-add, mul-zero, mul-suc, mul-le-mul_left}
 use native.Mathlib.Omega.{arith}
 use lib.ListN.{length, get_or, set, replicate, get_or-replicate, length-replicate, length-set}
 use lib.Seq.{get_or-set_same, get_or-set_other}
@@ -52,66 +51,6 @@ module _ (E : ℕ → EdgeRecord) where
               alone = λ a b l u e nz. absurd (nz (z a l));
             };
       }
-
-  -- the edge's event has a class already
-  pub class_known : (j n w : ℕ) (classes : List ℕ) → Classing E j n classes → w ≡ (E j).event → get_or classes w 0 ≢ 0
-      → Classing E (j + 1) n classes
-  class_known j n w classes C ew nz =
-      let I = C.are in
-      let k = I.few in
-      record {
-        kept = C.kept;
-        some_class = C.some_class;
-        are =
-            record {
-              few = omega arith;
-              classed = I.classed;
-              met = λ i b. by_eq i j (λ e. rw (e, ← ew) nz) (λ ne. I.met i (omega arith));
-              alone = I.alone;
-            };
-      }
-
-  -- it gets the next one
-  module _ (j n w : ℕ) (classes : List ℕ) (C : Classing E j n classes) (small : w < 256) (ew : w ≡ (E j).event) where
-    abbrev more : List ℕ
-    more = set classes w n
-
-    own : get_or more w 0 ≡ n
-    own = let len = C.kept in get_or-set_same classes w n 0 (omega arith)
-
-    other : (a : ℕ) → a ≢ w → get_or more a 0 ≡ get_or classes a 0
-    other a ne = get_or-set_other classes w a n 0 ne
-
-    unlike : (a : ℕ) → a < 256 → a ≢ w → get_or more a 0 ≢ get_or more w 0
-    unlike a b ne e = let l = C.are.classed a b in let h = other a ne in let k = own in omega arith
-
-    new_classed : (a : ℕ) → a < 256 → get_or more a 0 < n + 1
-    new_classed a b =
-        by_eq a w (λ e. rw (e, own) (omega arith)) (λ ne. let l = C.are.classed a b in rw (other a ne) (omega arith))
-
-    new_met : (i : ℕ) → i < j + 1 → get_or more (E i).event 0 ≢ 0
-    new_met i b =
-        by_eq (E i).event w (λ e. let s = C.some_class in rw (e, own) (λ z. omega arith))
-        (λ ne.
-        let nj : i ≢ j = λ e. ne (ap (λ (h : ℕ). (E h).event) e ∙ sym ew) in
-        rw (other (E i).event ne) (C.are.met i (omega arith)))
-
-    new_alone : (a b : ℕ) → a < 256 → b < 256 → get_or more a 0 ≡ get_or more b 0 → get_or more a 0 ≢ 0 → a ≡ b
-    new_alone a b l u e nz =
-        by_eq a w
-        (λ ea. by_eq b w (λ eb. ea ∙ sym eb)
-        (λ nb. absurd (unlike b u nb (sym e ∙ ap (λ (h : ℕ). get_or more h 0) ea))))
-        (λ na. by_eq b w (λ eb. absurd (unlike a l na (e ∙ ap (λ (h : ℕ). get_or more h 0) eb)))
-        (λ nb. C.are.alone a b l u (sym (other a na) ∙ e ∙ other b nb) (λ z. nz (other a na ∙ z))))
-
-    pub class_new : Classing E (j + 1) (n + 1) more
-    class_new =
-        let k = C.are.few in
-        record {
-          kept = length-set classes w n ∙ C.kept;
-          some_class = omega arith;
-          are = record { few = omega arith; classed = new_classed; met = new_met; alone = new_alone };
-        }
 
 -- ---- a row copied
 pub copy_start : (from to : ℕ) (old : List ℕ) → Copied 0 from to old old
@@ -191,10 +130,10 @@ row_in n f p l = let h : n * suc f ≤ n * p = mul-le-mul_left n (omega arith) i
 step_fail : (s : Stand) (r : ℕ) → StepAt s r → StepAt (failing s) (r + 65536)
 step_fail s r A = let x = A.place in let y = A.steps in record { place = omega arith; steps = omega arith }
 
-step_led : (E : ℕ → EdgeRecord) (o : Option ℕ) (s : Stand) (r : ℕ) → ((j : ℕ) → o ≡ some j → (E j).target < 65536)
-    → StepAt s r → StepAt (take-edge (then o (λ j. some (E j).target)) s) (led_by E o r)
-step_led E none s r small A = A
-step_led E (some j) s r small A = let b = small j refl in record { place = omega arith; steps = omega arith }
+step_led : (E : ℕ → EdgeRecord) (o : Option ℕ) (s : Stand) (r : ℕ) → ((j : ℕ) → o ≡ Some j → (E j).target < 65536)
+    → StepAt s r → StepAt (take-edge (then o (λ j. Some (E j).target)) s) (led_by E o r)
+step_led E None s r small A = A
+step_led E (Some j) s r small A = let b = small j refl in record { place = omega arith; steps = omega arith }
 
 -- the edges of place p, written over the row that starts at `row`
 abbrev OwnedAt : List ℕ → ℕ → ℕ → ℕ → List ℕ → List ℕ → List ℕ → Type 0
@@ -205,9 +144,9 @@ module _ (xs : List ℕ) (q t : ℕ) (F : Facts xs q t) where
   abbrev M : Image
   M = questions_at form1 xs q
 
-  target_small : (p a : ℕ) → p < q → (j : ℕ) → M.find p a ≡ some j → M.target j < 65536
+  target_small : (p a : ℕ) → p < q → (j : ℕ) → M.find p a ≡ Some j → M.target j < 65536
   target_small p a b j e =
-      let g : edge_of M p a ≡ some (M.target j) = ap (λ (o : Option ℕ). then o (λ j. some (M.target j))) e in
+      let g : edge_of M p a ≡ Some (M.target j) = ap (λ (o : Option ℕ). then o (λ j. Some (M.target j))) e in
       let l = ((levels xs q t F).target p a (M.target j) b g).0 in
       let k = F.few_places in
       omega arith
@@ -298,9 +237,9 @@ module _ (xs : List ℕ) (q t : ℕ) (F : Facts xs q t) where
 
   -- ---- one event
   few_led : (o : Option ℕ) (s : Stand) (m : ℕ) → s.failed ≤ m
-      → (take-edge (then o (λ j. some (M.target j))) s).failed ≤ m
-  few_led none s m l = l
-  few_led (some j) s m l = omega arith
+      → (take-edge (then o (λ j. Some (M.target j))) s).failed ≤ m
+  few_led None s m l = l
+  few_led (Some j) s m l = omega arith
 
   few_zero : (p a : ℕ) → p ≡ 0 → (next M p a).failed ≤ p
   few_zero p a z = rw (z, next-zero M a) (few_led (M.find 0 a) (stand 0 0) 0 (omega arith))
@@ -328,11 +267,3 @@ module _ (xs : List ℕ) (q t : ℕ) (F : Facts xs q t) where
         below = rw A.place (next-below M (levels xs q t F) p a b);
         few = rw A.steps (few_within p p a (omega arith) b);
       }
-
--- the product of two counts fits its type, so that it can be tested
-pub few_entries : (n q t : ℕ) → n ≤ t + 1 → t ≤ 4096 → q ≤ 1024 → n * q ≤ 4195328
-few_entries n q t a b c = let l : n ≤ 4097 = omega arith in mul-le-mul l c
-
--- an entry stands in the table
-pub entry_in : (n p q c : ℕ) → p < q → c < n → n * q ≤ 32768 → n * p + c < 32768
-entry_in n p q c b l h = let r = row_in n p q b in omega arith

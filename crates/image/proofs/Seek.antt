@@ -1,59 +1,55 @@
 -- Laws of `seek`, the search of a place's edges: one step; edges in front that do not match are skipped, edges at the end
 -- cut; where events rise, the search is halved, and an event stands in a window.
 --   seek-step, seek_end, seek_found     one step; none left; what is found stands among the edges, with the event
+--   seek_hit, seek_miss                 one step, at the event that is sought and at another
 --   skip, cut                           edges that do not match
---   half_fits, half_whole, half_none    how far the halving reaches, computed
 --   rising_part, turn_either            where events rise: a part of them; one turn of the halving
 --   window, no_window                   an event among n rising bytes has an index from event + n - 256 to event
 -- Assumes nothing.
 use mathlib.Core.Path.{◌≡◌, refl, sym, ◌∙◌, subst}
 use mathlib.Core.Logic.{◌≢◌, ◌⊎◌, inl, inr, ⊎_elim}
-use mathlib.Core.Option.{Option, none, some}
-use Prim.Native.Nat.{ℕ, zero, suc, ◌+◌, ◌*◌, ◌-◌, ◌/◌, ◌<◌, ◌≤◌, min}
-use native.Mathlib.Nat.{eq-or-lt_of_le, le_trans, mul-le-mul_left}
+use Rattle.std.specs.Prelude.{Option, None, Some}
+use Prim.Native.Nat.{ℕ, zero, suc, ◌+◌, ◌-◌, ◌<◌, ◌≤◌, min}
+use native.Mathlib.Nat.{eq-or-lt_of_le, le_trans}
 use native.Mathlib.Omega.{arith}
 use lib.Dec.{eqb}
-use borrow.Author.Tests.{ne_eqb, eqb-true}
+use borrow.Author.Tests.{eq-eqb, ne_eqb, eqb-true}
 use Rattle.meaning.specs.Choice.{when}
 use Rattle.meaning.proofs.Cases.{by_bool, by_order, none_some}
 use Rattle.image.specs.Form.{EdgeRecord}
 use Rattle.image.specs.Questions.{seek}
 use Rattle.image.specs.Held.{Rising}
 
--- a half of h edges whose event is e, or none of it
-pub half_fits : (h e a : ℕ) → a < 256 → h * ((a + 256 - e) / 256) ≤ h
-half_fits h e a b =
-    let o : (a + 256 - e) / 256 ≤ 1 = omega arith in
-    let m : h * ((a + 256 - e) / 256) ≤ h * 1 = mul-le-mul_left h o in
-    omega arith
-
-pub half_whole : (h e a : ℕ) → a < 256 → e ≤ a → h * ((a + 256 - e) / 256) ≡ h
-half_whole h e a b l = let o : (a + 256 - e) / 256 ≡ 1 = omega arith in rw o (omega arith)
-
-pub half_none : (h e a : ℕ) → e < 256 → a < e → h * ((a + 256 - e) / 256) ≡ 0
-half_none h e a b l = let o : (a + 256 - e) / 256 ≡ 0 = omega arith in rw o (omega arith)
-
 le_or_lt : (m n : ℕ) → (m ≤ n) ⊎ (n < m)
 le_or_lt m n = by_order m n (λ l. inl (omega arith)) (λ e. inl (omega arith)) (λ l. inr l)
 
 module _ (E : ℕ → EdgeRecord) where
   pub seek-step : (a left j : ℕ) → 0 < left
-      → seek E a left j ≡ when (eqb (E j).event a) (some j) (seek E a (left - 1) (j + 1))
+      → seek E a left j ≡ when (eqb (E j).event a) (Some j) (seek E a (left - 1) (j + 1))
   unfolding seek
   seek-step a zero j h = absurd (omega arith)
   seek-step a (suc left) j h = let e : suc left - 1 ≡ left = omega arith in rw e
 
-  pub seek_end : (a left j : ℕ) → left ≡ 0 → seek E a left j ≡ none
+  pub seek_end : (a left j : ℕ) → left ≡ 0 → seek E a left j ≡ None
   unfolding seek
   seek_end a left j z = rw z
 
-  pub seek_found : (a left j k : ℕ) → seek E a left j ≡ some k → (j ≤ k) × (k < j + left) × ((E k).event ≡ a)
+  -- with e the event at j: it is the one that is sought, or another
+  pub seek_hit : (a left j e : ℕ) → 0 < left → e ≡ (E j).event → e ≡ a → seek E a left j ≡ Some j
+  seek_hit a left j e h ee ea = rw (seek-step a left j h, ← ee, eq-eqb e a ea)
+
+  pub seek_miss : (a left m j e : ℕ) → left ≡ m + 1 → e ≡ (E j).event → e ≢ a → seek E a left j ≡ seek E a m (j + 1)
+  seek_miss a left m j e h ee ea =
+      let f : left - 1 ≡ m = omega arith in
+      rw (seek-step a left j (omega arith), ← ee, ne_eqb e a ea, f)
+
+  pub seek_found : (a left j k : ℕ) → seek E a left j ≡ Some k → (j ≤ k) × (k < j + left) × ((E k).event ≡ a)
   unfolding seek
   seek_found a zero j k e = none_some refl e
   seek_found a (suc left) j k e =
       by_bool (eqb (E j).event a)
       (λ b.
-      let f : ◌≡◌ {A = Option ℕ} (some j) (some k) = rw b at e in
+      let f : ◌≡◌ {A = Option ℕ} (Some j) (Some k) = rw b at e in
       let g : j ≡ k = cc in
       let v : (E j).event ≡ a = eqb-true _ _ b in
       (omega arith, omega arith, subst (λ (i : ℕ). (E i).event ≡ a) g v))
@@ -172,7 +168,7 @@ module _ (E : ℕ → EdgeRecord) where
           cut a hi n j (omega arith) (λ i u b. high_event i b (omega arith))
           ∙ skip a lo hi j l (λ i b. low_event small i (omega arith) (omega arith))
 
-      pub no_window : hi ≤ lo → seek E a n j ≡ none
+      pub no_window : hi ≤ lo → seek E a n j ≡ None
       no_window l =
           cut a hi n j (omega arith) (λ i u b. high_event i b (omega arith))
           ∙ skip a hi hi j (omega arith) (λ i b. low_event small i (omega arith) (omega arith))

@@ -1,11 +1,10 @@
 -- The tables of a run: one more entry.
 --   Filling, root_start, root_turn, root_done  place 0's table, from its last edge to its first
 --   led_step            where an event leads, with one edge more in front
---   packed_more         the packed table, from place 0 on
 -- Assumes nothing.
 use mathlib.Core.Path.{◌≡◌, refl, sym, ap, ◌∙◌}
 use mathlib.Core.Bool.{Bool, true, false}
-use mathlib.Core.Option.{Option, none, some}
+use Rattle.std.specs.Prelude.{Option, None, Some}
 use mathlib.Core.List.{List}
 use Prim.Native.Nat.{ℕ, ◌+◌, ◌-◌, ◌≤◌, ◌<◌}
 use native.Mathlib.Omega.{arith}
@@ -19,7 +18,7 @@ use Rattle.meaning.proofs.Cases.{by_eq}
 use Rattle.meaning.proofs.Walk.{next-zero}
 use Rattle.image.specs.Form.{EdgeRecord, form1, edge_at, place_at}
 use Rattle.image.specs.Questions.{seek, questions_at}
-use Rattle.image.specs.Held.{IsRoot, PackedAt}
+use Rattle.image.specs.Held.{IsRoot}
 use Rattle.image.specs.Steps.{led_by}
 use Rattle.image.proofs.Seek.{seek-step, seek_end}
 
@@ -46,7 +45,7 @@ module _ (E : ℕ → EdgeRecord) where
         table = λ a b. rw (e, seek_end E a (first + n - j) j z) (get_or-replicate 256 a 0 0 b);
       }
 
-  led_when : (b : Bool) (j r : ℕ) (o : Option ℕ) → led_by E (when b (some j) o) r ≡ when b (E j).target (led_by E o r)
+  led_when : (b : Bool) (j r : ℕ) (o : Option ℕ) → led_by E (when b (Some j) o) r ≡ when b (E j).target (led_by E o r)
   led_when true j r o = refl
   led_when false j r o = refl
 
@@ -80,9 +79,9 @@ module _ (E : ℕ → EdgeRecord) where
       }
 
 root_place : (E : ℕ → EdgeRecord) (o : Option ℕ)
-    → led_by E o 0 ≡ (take-edge (then o (λ j. some (E j).target)) (stand 0 0)).place
-root_place E none = refl
-root_place E (some j) = refl
+    → led_by E o 0 ≡ (take-edge (then o (λ j. Some (E j).target)) (stand 0 0)).place
+root_place E None = refl
+root_place E (Some j) = refl
 
 pub root_done : (xs : List ℕ) (q first n j : ℕ) (root : List ℕ) → n ≡ (place_at form1 xs 0).count
     → first ≡ (place_at form1 xs 0).first → Filling (edge_at form1 xs q) first (first + n) j root → j ≤ first
@@ -95,9 +94,3 @@ root_done xs q first n j root en ej R l a b =
     let h : j ≡ (place_at form1 xs 0).first = omega arith in
     let f : get_or root a 0 ≡ led_by E (M.find 0 a) 0 = rw (← e, ← h) (R.table a b) in
     rw (next-zero M a) (f ∙ root_place E (M.find 0 a))
-
-pub packed_more : (xs table : List ℕ) (p r : ℕ) → p < length table → ((l : ℕ) → l < p → PackedAt xs l (get_or table l 0))
-    → PackedAt xs p r → (l : ℕ) → l < p + 1 → PackedAt xs l (get_or (set table p r) l 0)
-packed_more xs table p r h old new l b =
-    by_eq l p (λ e. rw (e, get_or-set_same table p r 0 h) new)
-    (λ ne. rw (get_or-set_other table p l r 0 ne) (old l (omega arith)))

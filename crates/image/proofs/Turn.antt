@@ -1,8 +1,6 @@
 -- One turn of the run over an accepted image, on plain values.
 --   carry               what a run comes to is the same after some of its events
---   ready_then          what a walk asks for, where it has come to
---   carried_none, carried_then  no turn; one turn after another
---   run_start           before the first event
+--   carried_then        one turn after another
 --   run-stays, run_turn an event that stays at place 0; an event whose records fit
 --   run_full, run_done  no room for the next event's records; the run is over
 -- Assumes nothing.
@@ -14,7 +12,6 @@ use native.Mathlib.Numerals.{add-one}
 use native.Mathlib.Omega.{arith}
 use lib.ListN.{length, get_or, drop, length-append, drop_of_length-le}
 use lib.Seq.{sets, drop-cons}
-use Rattle.wire.specs.Little.{NumberIs}
 use Rattle.wire.proofs.Sets.{sets_then}
 use Rattle.meaning.specs.Answer.{accepted}
 use Rattle.meaning.specs.Questions.{Image}
@@ -27,10 +24,10 @@ use Rattle.image.specs.Calls.{run_told, list_bytes}
 use Rattle.image.specs.Form.{form1}
 use Rattle.image.specs.Questions.{questions_at}
 use Rattle.image.specs.Held.{Accepted, edges_of, IsRoot, Idle, MovedIs, reports}
-use Rattle.image.specs.Held.{left_at, told_at, Stands, Ready, Carried}
+use Rattle.image.specs.Held.{left_at, told_at, Stands, Carried}
 use Rattle.image.specs.declared.Going.{Going}
 use Rattle.image.specs.declared.Moved.{Moved}
-use Rattle.image.proofs.Accepted.{facts}
+use Rattle.image.proofs.Accepted.{facts_of}
 use Rattle.image.proofs.Links.{records_count}
 use Rattle.image.proofs.Move.{idle_next}
 use Rattle.image.proofs.Writing.{length-list_bytes, list_bytes-append}
@@ -38,15 +35,6 @@ use Rattle.image.proofs.Writing.{length-list_bytes, list_bytes-append}
 -- no event is taken yet
 abbrev pub unmoved : ℕ → Going
 unmoved p = record { taken = 0; place = p; records = 0; steps = 0; full = false }
-
--- what a walk asks for, it has again where it has come to
-pub ready_then : (xs : List ℕ) (q : ℕ) (table : List ℕ) (room base : ℕ) (log out out' : List ℕ) (g g' : Going)
-    → Ready xs q table room base log out g → Carried (questions_at form1 xs q) room base log out g out' g'
-    → Ready xs q table room base log out' g'
-ready_then xs q table room base log out out' g g' R C =
-    let h = R.held in
-    let k = C.kept in
-    record { image = R.image; packed = R.packed; held = omega arith; short = R.short; stands = C.stands }
 
 module _ (M : Image) (room base : ℕ) (log : List ℕ) where
   abbrev left : Going → Outcome
@@ -80,9 +68,6 @@ module _ (M : Image) (room base : ℕ) (log : List ℕ) where
             ∙ ap (λ (d : List ℕ). sets d (8 * g'.records) (list_bytes o.records)) (sym put));
       }
 
-  pub carried_none : (out : List ℕ) (g : Going) → Stands M room base log g → Carried M room base log out g out g
-  carried_none out g S = record { kept = refl; stands = S; told = refl; memory = refl }
-
   pub carried_then : (out₀ out out' : List ℕ) (g₀ g g' : Going) → Carried M room base log out₀ g₀ out g
       → Carried M room base log out g out' g' → Carried M room base log out₀ g₀ out' g'
   carried_then out₀ out out' g₀ g g' C D =
@@ -91,16 +76,6 @@ module _ (M : Image) (room base : ℕ) (log : List ℕ) where
         stands = D.stands;
         told = D.told ∙ C.told;
         memory = D.memory ∙ C.memory;
-      }
-
-  pub run_start : (p : ℕ) → p < M.count → Stands M room base log (unmoved p)
-  run_start p b =
-      record {
-        taken = omega arith;
-        below = b;
-        fits = omega arith;
-        few = omega arith;
-        over = λ e. absurd (true_false e refl);
       }
 
   module _ (out : List ℕ) (g : Going) (S : Stands M room base log g) (more : g.taken < length log) where
@@ -132,7 +107,7 @@ module _ (M : Image) (room base : ℕ) (log : List ℕ) where
     reports-length : reports M there ≡ length rs
     reports-length = records_count M (base + g.taken + 1) 0 there
 
-    pub run_turn : (m : Moved) (q k e : ℕ) (out' : List ℕ) → MovedIs (next M g.place a) q g.place m
+    pub run_turn : (m : Moved) (q k e : ℕ) (out' : List ℕ) → g.full ≡ false → MovedIs (next M g.place a) q g.place m
         → M.count ≡ q → q ≤ 1024 → reports M m.place ≤ room - g.records → e ≡ base + g.taken + 1
         → k ≡ g.records + reports M m.place → length out' ≡ length out
         → out' ≡ sets out (8 * g.records) (list_bytes (records_at M e m.place))
@@ -142,9 +117,9 @@ module _ (M : Image) (room base : ℕ) (log : List ℕ) where
           place = m.place;
           records = k;
           steps = g.steps + m.steps;
-          full = false;
+          full = g.full;
         })
-    run_turn m q k e out' W eq few fit ee ek len put =
+    run_turn m q k e out' on W eq few fit ee ek len put =
         let et : m.place ≡ there = W.place in
         let c : reports M m.place ≡ length rs = ap (λ (p : ℕ). reports M p) et ∙ reports-length in
         let ok : k ≡ g.records + length rs = omega arith in
@@ -162,7 +137,7 @@ module _ (M : Image) (room base : ℕ) (log : List ℕ) where
           below = omega arith;
           fits = omega arith;
           few = omega arith;
-          over = λ e. absurd (true_false e refl);
+          over = λ e. absurd (true_false e on);
         })
 
     -- an event at place 0 that leads nowhere: no record, no step
@@ -254,10 +229,9 @@ module _ (M : Image) (room base : ℕ) (log : List ℕ) where
 -- the event of an idle place, as the table of place 0 tells it
 pub run-stays : (xs : List ℕ) (q room base : ℕ) (log root out : List ℕ) (g : Going) (b : ℕ) → Accepted xs q
     → IsRoot (questions_at form1 xs q) root → Stands (questions_at form1 xs q) room base log g → g.taken < length log
-    → NumberIs (get_or log g.taken 0) 256 b → Idle root g.place b → g.full ≡ false
+    → b < 256 → b ≡ get_or log g.taken 0 → Idle root g.place b → g.full ≡ false
     → Carried (questions_at form1 xs q) room base log out g out
     (record { taken = g.taken + 1; place = g.place; records = g.records; steps = g.steps; full = g.full })
-run-stays xs q room base log root out g b A R S more w I on =
-    let F = facts xs q (edges_of xs) 0 0 A.is in
-    let d = idle_next xs q (edges_of xs) F g.place b root w.small R I in
-    run_idle (questions_at form1 xs q) room base log out g S more b w.is d.0 d.1 I.here on
+run-stays xs q room base log root out g b A R S more small eb I on =
+    let d = idle_next xs q (edges_of xs) (facts_of A) g.place b root small R I in
+    run_idle (questions_at form1 xs q) room base log out g S more b eb d.0 d.1 I.here on

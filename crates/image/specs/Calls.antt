@@ -1,12 +1,12 @@
 -- What each call answers. Document 01, "Refusal numbers", "The image", "Runs and lists".
 --   place_rules q p      20: a place that an image with q places does not have
 --   checked_first xs f   refused by 17 to 19, otherwise what f says of the image's place count
---   places_in, edges_in  the counts that an image is opened with
+--   places_in, edges_in, opened  the counts that an image is opened with
 --   fallback_in, level_in, mark_in, edge_in  the questions, of an image with q places
 --   next_in              one event of a walk: place, level, failure steps
 --   run_rules, run_answer, run_memory  a run: its refusals, its answer, the record buffer afterwards
 --   list_bytes           the bytes of a list of records
-use Rattle.std.proofs.Math.Option.{Option, none, some}
+use Rattle.std.specs.Prelude.{Option, None, Some}
 use Rattle.std.specs.Prelude.{List, [], ◌∷◌, ◌++◌, ℕ, ◌+◌, ◌/◌, length, leb, ltb}
 use Rattle.wire.specs.Record.{record_size, record_bytes}
 use Rattle.meaning.specs.Answer.{Answer, accepted, refused, Rule, rule, judged, leaving}
@@ -14,7 +14,7 @@ use Rattle.meaning.specs.Questions.{Image, edge_of}
 use Rattle.meaning.specs.Walk.{Stand, next}
 use Rattle.meaning.specs.Records.{Record, Outcome, run}
 use Rattle.image.specs.Form.{form_of, trailer_of}
-use Rattle.image.specs.Rules.{image_rules}
+use Rattle.image.specs.Rules.{image_rules, check_image}
 use Rattle.image.specs.Questions.{questions_at, questions}
 
 abbrev pub place_rules : ℕ → ℕ → List Rule
@@ -32,6 +32,9 @@ abbrev pub edges_in : Answer → ℕ
 edges_in (accepted q t c d) = t
 edges_in (refused n p) = 0
 
+abbrev pub opened : List ℕ → ℕ
+opened xs = places_in (check_image xs)
+
 -- ---- the questions
 unfoldable pub fallback_in : List ℕ → ℕ → ℕ → Answer
 fallback_in xs q p = judged (place_rules q p) (accepted ((questions_at (form_of xs) xs q).fallback p) 0 0 0)
@@ -44,8 +47,8 @@ mark_in xs q p = judged (place_rules q p) (accepted ((questions_at (form_of xs) 
 
 -- whether there is an edge, and its target
 abbrev pub edge_told : Option ℕ → Answer
-edge_told none = accepted 0 0 0 0
-edge_told (some r) = accepted 1 r 0 0
+edge_told None = accepted 0 0 0 0
+edge_told (Some r) = accepted 1 r 0 0
 
 unfoldable pub edge_in : List ℕ → ℕ → ℕ → ℕ → Answer
 edge_in xs q p a = judged (place_rules q p) (edge_told (edge_of (questions_at (form_of xs) xs q) p a))

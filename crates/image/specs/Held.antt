@@ -1,11 +1,12 @@
 -- What the private functions require and answer, so that they read without tests.
---   HoldsPlace, HoldsEdge, HoldsEdges  the record of a place, of an edge, of n edges from j on, is among the bytes
+--   HoldsEdges          the records of n edges from j on are among the bytes
 --   Sized               an image as long as its counts say, within the limits
 --   below_at, reached_at, places_fault_at, events_fault_at, edges_fault_at  records and scans of form 1
 --   FaultIs             the number of a record at fault, at most m, or none
---   edges_for           the edge count of an image, where its place count is known
+--   there_in            a place, where there is one of that number; else refused by 20
+--   SaysOf              what is said of a place, as answers
 --   Accepted            an image that the check accepts, with q places
---   Rising, edge_or, FoundIs  events that rise; the number of the edge found, or one that no edge has
+--   Rising              events that rise
 --   IsRoot, Idle        a table of where each event leads from place 0; the walk stays there
 --   PackedAt, IsPacked  a table of what is written of a place that reports, and of the next one
 --   MovedIs             one event of the walk
@@ -14,11 +15,14 @@
 --   told_at, memory_at  what it answers from there, and the buffer that it leaves
 --   Stands, Ready       where a run can stand; what a walk on from there asks for
 --   Carried, CarriedTo  from one stand to the next, what the run comes to is the same
-use Rattle.std.specs.Prelude.{◌≡◌, List, true, false, ◌≢◌, ℕ, ◌+◌, ◌*◌, ◌-◌, ◌/◌, ◌%◌, ◌≤◌, ◌<◌, length, get_or, drop, eqb}
-use Rattle.std.proofs.Math.Option.{Option, none, some}
+use Rattle.std.specs.Prelude.{◌≡◌, List, true, false, ℕ, ◌+◌, ◌*◌, ◌-◌, ◌/◌, ◌%◌, ◌≤◌, ◌<◌, length, get_or, drop, eqb, leb}
+use Rattle.std.specs.Prelude.{Option, IfSome, Result, Ok, Err}
 use Rattle.std.proofs.lemmas.List.Edits.{sets}
 use Rattle.meaning.specs.Choice.{when}
 use Rattle.meaning.specs.Answer.{Answer, accepted}
+use Rattle.meaning.specs.declared.Reason.TheVariants.{Place as no_place}
+use Rattle.meaning.specs.declared.Refusal.{Refusal}
+use Rattle.meaning.specs.Refusal.{told}
 use Rattle.meaning.specs.Questions.{Image}
 use Rattle.meaning.specs.Walk.{Stand, next}
 use Rattle.wire.specs.Record.{record_size}
@@ -29,14 +33,7 @@ use Rattle.image.specs.Rules.{places_fault, events_fault, edges_fault, check_ima
 use Rattle.image.specs.Calls.{list_bytes}
 use Rattle.image.specs.declared.Going.{Going}
 use Rattle.image.specs.declared.Moved.{Moved}
-use Rattle.image.specs.declared.Found.{Found}
-use Rattle.image.specs.declared.Found.TheVariants.{At, Nothing}
-
-abbrev pub HoldsPlace : List ℕ → ℕ → Type 0
-HoldsPlace xs p = form1.place_size * p + form1.place_size ≤ length xs
-
-abbrev pub HoldsEdge : List ℕ → ℕ → ℕ → Type 0
-HoldsEdge xs q j = form1.place_size * q + form1.edge_size * j + form1.edge_size ≤ length xs
+use Rattle.image.specs.declared.Place.{Place}
 
 abbrev pub HoldsEdges : List ℕ → ℕ → ℕ → ℕ → Type 0
 HoldsEdges xs q j n = form1.place_size * q + form1.edge_size * (j + n) ≤ length xs
@@ -69,25 +66,23 @@ events_fault_at xs q level left j floor = events_fault (place_at form1 xs) (edge
 abbrev pub edges_fault_at : List ℕ → ℕ → ℕ → ℕ → ℕ → Option ℕ
 edges_fault_at xs q left p j = edges_fault (place_at form1 xs) (edge_at form1 xs q) q left p j
 
-abbrev pub found_of : Found → Option ℕ
-found_of (At i) = some i
-found_of Nothing = none
+pub record FaultIs (o : Option ℕ) (m : ℕ) (r : Option ℕ) : Type 0 where
+  pub is : r ≡ o
+  pub within : IfSome r (λ i. i ≤ m)
 
-abbrev pub Within : ℕ → Found → Type 0
-Within m (At i) = i ≤ m
-Within m Nothing = Unit {0}
+-- ---- a question
+abbrev pub there_in : ℕ → ℕ → Result ℕ Refusal
+there_in q p = when (leb q p) (Err (record { reason = no_place; place = 0 })) (Ok p)
 
-pub record FaultIs (o : Option ℕ) (m : ℕ) (r : Found) : Type 0 where
-  pub is : found_of r ≡ o
-  pub within : Within m r
+-- the answers to which what is said of a place comes, for each number of its record
+pub record SaysOf (r : Result Place Refusal) (f l m : Answer) : Type 0 where
+  pub fallback : told (λ x. accepted x.fallback 0 0 0) r ≡ f
+  pub level : told (λ x. accepted x.level 0 0 0) r ≡ l
+  pub mark : told (λ x. accepted x.mark 0 0 0) r ≡ m
 
 -- ---- an accepted image
 abbrev pub edges_of : List ℕ → ℕ
 edges_of xs = (trailer_of form1 xs).edges
-
--- the edge count, where the place count is known
-unfoldable pub edges_for : List ℕ → ℕ → ℕ
-edges_for xs q = when (eqb q 0) 0 (edges_of xs)
 
 pub record Accepted (xs : List ℕ) (q : ℕ) : Type 0 where
   pub size : length xs ≡ size_of form1 q (edges_of xs)
@@ -99,17 +94,6 @@ pub record Accepted (xs : List ℕ) (q : ℕ) : Type 0 where
 -- the events of n edges from j on
 abbrev pub Rising : (ℕ → EdgeRecord) → ℕ → ℕ → Type 0
 Rising E j n = (i k : ℕ) → i < k → k < n → (E (j + i)).event < (E (j + k)).event
-
-abbrev pub no_edge : ℕ
-no_edge = 4294967295
-
-abbrev pub edge_or : Option ℕ → ℕ
-edge_or none = no_edge
-edge_or (some j) = j
-
-pub record FoundIs (o : Option ℕ) (t r : ℕ) : Type 0 where
-  pub missing : r ≡ no_edge → o ≡ none
-  pub found : r ≢ no_edge → (o ≡ some r) × (r < t)
 
 abbrev pub IsRoot : Image → List ℕ → Type 0
 IsRoot M root = (a : ℕ) → a < 256 → get_or root a 0 ≡ (next M 0 a).place
@@ -162,12 +146,9 @@ pub record Stands (M : Image) (room base : ℕ) (log : List ℕ) (g : Going) : T
   pub few : g.steps ≤ 1024 * g.taken
   pub over : g.full ≡ true → left_at M room base log g ≡ stopped g.place
 
-pub record Ready (xs : List ℕ) (q : ℕ) (table : List ℕ) (room base : ℕ) (log out : List ℕ) (g : Going) : Type 0 where
-  pub image : Accepted xs q
-  pub packed : IsPacked xs q table
+pub record Ready (M : Image) (room base : ℕ) (log out : List ℕ) (g : Going) : Type 0 where
   pub held : record_size * room ≤ length out
-  pub short : base + length log < 4294967296
-  pub stands : Stands (questions_at form1 xs q) room base log g
+  pub stands : Stands M room base log g
 
 pub record Carried (M : Image) (room base : ℕ) (log out : List ℕ) (g : Going) (out' : List ℕ) (g' : Going) : Type 0 where
   pub kept : length out' ≡ length out

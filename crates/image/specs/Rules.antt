@@ -9,7 +9,7 @@
 --   edges_fault         the first edge record at fault
 --   image_rules, check_image  the refusals in their order; what a check answers: places and edges, or refused
 use Rattle.std.specs.Prelude.{Bool, not, ◌&&◌, List, [], ◌∷◌, ℕ, zero, suc, ◌+◌, ◌*◌, length, eqb, leb, ltb}
-use Rattle.std.proofs.Math.Option.{Option, none, some}
+use Rattle.std.specs.Prelude.{Option, None, Some}
 use Rattle.meaning.specs.Choice.{when}
 use Rattle.meaning.specs.Answer.{Answer, accepted, Rule, rule, rule_at, judged}
 use Rattle.image.specs.Form.{PlaceRecord, EdgeRecord, Trailer, Form, form_of, size_of, place_at, edge_at, trailer_of}
@@ -55,9 +55,9 @@ place_right p sum x b =
 
 -- the first of left places from p on that is at fault
 unfoldable pub places_fault : (ℕ → PlaceRecord) → ℕ → ℕ → ℕ → ℕ → Option ℕ
-places_fault P t zero p sum = when (eqb sum t) none (some p)
+places_fault P t zero p sum = when (eqb sum t) None (Some p)
 places_fault P t (suc left) p sum =
-    when (place_right p sum (P p) (P (P p).fallback)) (places_fault P t left (p + 1) (sum + (P p).count)) (some p)
+    when (place_right p sum (P p) (P (P p).fallback)) (places_fault P t left (p + 1) (sum + (P p).count)) (Some p)
 
 -- ---- 19
 unfoldable pub edge_right : ℕ → ℕ → ℕ → EdgeRecord → ℕ → Bool
@@ -66,27 +66,27 @@ edge_right q level floor e reached =
 
 -- the first of one place's left edges from j on that is at fault: floor is one above the event before
 unfoldable pub events_fault : (ℕ → PlaceRecord) → (ℕ → EdgeRecord) → ℕ → ℕ → ℕ → ℕ → ℕ → Option ℕ
-events_fault P E q level zero j floor = none
+events_fault P E q level zero j floor = None
 events_fault P E q level (suc left) j floor =
     when (edge_right q level floor (E j) (P (E j).target).level)
     (events_fault P E q level left (j + 1) ((E j).event + 1))
-    (some j)
+    (Some j)
 
 abbrev pub or_else : Option ℕ → Option ℕ → Option ℕ
-or_else none o = o
-or_else (some i) o = some i
+or_else None o = o
+or_else (Some i) o = Some i
 
 -- the same of the edges of left places from p on, whose edges start at j
 unfoldable pub edges_fault : (ℕ → PlaceRecord) → (ℕ → EdgeRecord) → ℕ → ℕ → ℕ → ℕ → Option ℕ
-edges_fault P E q zero p j = none
+edges_fault P E q zero p j = None
 edges_fault P E q (suc left) p j =
     or_else (events_fault P E q (P p).level (P p).count j 0) (edges_fault P E q left (p + 1) (j + (P p).count))
 
 -- ---- the check
 -- a record number as an offset: the records of that size start at base
 abbrev pub offset : ℕ → ℕ → Option ℕ → Option ℕ
-offset base size none = none
-offset base size (some i) = some (base + size * i)
+offset base size None = None
+offset base size (Some i) = Some (base + size * i)
 
 unfoldable pub image_rules : Form → List ℕ → List Rule
 image_rules f xs =

@@ -5,7 +5,7 @@
 --   Copied      a row copied, with one failure step more in each entry
 --   led_by, Owned  a place's own edges written over its row
 use Rattle.std.specs.Prelude.{◌≡◌, ◌≢◌, List, ℕ, ◌+◌, ◌*◌, ◌/◌, ◌%◌, ◌≤◌, ◌<◌, length, get_or}
-use Rattle.std.proofs.Math.Option.{Option, none, some}
+use Rattle.std.specs.Prelude.{Option, None, Some}
 use Rattle.meaning.specs.Questions.{Image}
 use Rattle.meaning.specs.Walk.{Stand, next}
 use Rattle.image.specs.Form.{EdgeRecord}
@@ -35,8 +35,8 @@ pub record Copied (n from to : ℕ) (old new : List ℕ) : Type 0 where
 
 -- the edge found leads to its target, without a failure step
 abbrev pub led_by : (ℕ → EdgeRecord) → Option ℕ → ℕ → ℕ
-led_by E none r = r
-led_by E (some j) r = (E j).target
+led_by E None r = r
+led_by E (Some j) r = (E j).target
 
 -- n edges from j on, written over the row that starts at `row`
 pub record Owned (E : ℕ → EdgeRecord) (n j row : ℕ) (classes old new : List ℕ) : Type 0 where

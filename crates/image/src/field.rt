@@ -1,117 +1,149 @@
-// The numbers of records that are among the bytes, read without a test. Form 1's offsets stand here and in `total` alone.
-ghost use Rattle.std.specs.Prelude.{◌≡◌, ◌+◌, ◌*◌, ◌/◌, ◌%◌, ◌≤◌, ◌<◌, length};
+// The numbers of an image's records. Form 1's offsets stand here alone.
+ghost use Rattle.std.specs.Prelude.{◌≡◌, List, ℕ, ◌+◌, ◌*◌, ◌/◌, ◌%◌, ◌≤◌, ◌<◌, length, get_or, min};
+ghost use Rattle.std.proofs.Common.{arith};
 ghost use Rattle.std.proofs.lemmas.List.Edits.{sets};
 ghost use Rattle.wire.specs.Little.{NumberIs, le16_at};
 ghost use Rattle.wire.specs.Record.{record_bytes};
 ghost use Rattle.image.specs.Form.{form1, place_at, edge_at, trailer_of, has_letters};
-ghost use Rattle.image.specs.Held.{HoldsPlace, HoldsEdge};
 
 use crate::SM;
 
-pub(crate) fn wide(x: u8) -> usize
-    ensures { NumberIs x 256 result }
-{
-    x as usize
+// Bytes that numbers are read from.
+pub(crate) trait Bytes: Copy {
+    ghost list: { Self → List ℕ };
+
+    // how many of them can be read
+    ghost end: { Self → ℕ };
+
+    fn byte(self, at: usize) -> usize
+        requires { at < end self }
+        ensures { NumberIs (get_or (list self) at 0) 256 result };
+
+    fn pair(self, at: usize) -> usize
+        requires { at + 1 < end self }
+        ensures { NumberIs (le16_at (list self) at) 65536 result };
+
+    ghost fits: { (s : Self) → end s < 18446744073709551616 };
 }
 
-pub(crate) fn wide16(x: u16) -> usize
-    ensures { NumberIs x 65536 result }
-{
-    x as usize
+// Those of a slice are read without a test: they are to be there.
+impl<'a> Bytes for &'a [u8] {
+    ghost list = { λ s. s.now };
+
+    ghost end = { λ s. min (length s.now) 18446744073709551615 };
+
+    fn byte(self, at: usize) -> usize {
+        usize::from(self[at])
+    }
+
+    fn pair(self, at: usize) -> usize {
+        wire::pair(self, at)
+    }
+
+    ghost fits = { λ s. Prim.omega arith };
 }
 
-pub(crate) fn wide32(x: u32) -> usize
-    ensures { NumberIs x 4294967296 result }
-{
-    x as usize
+// A slice as any bytes: past its end all are 0.
+#[derive(Clone, Copy)]
+pub(crate) struct Padded<'a> {
+    pub(crate) bytes: &'a [u8],
 }
 
-fn half(s: &[u8], at: usize) -> usize
-    requires { at + 1 < length s.now }
-    ensures { NumberIs (le16_at s.now at) 65536 result }
-{
-    wide(s[at]) + 256 * wide(s[at + 1])
+impl<'a> Bytes for Padded<'a> {
+    ghost list = { λ s. s.bytes.now };
+
+    ghost end = { λ s. 18446744073709551615 };
+
+    fn byte(self, at: usize) -> usize {
+        wire::byte_at(self.bytes, at)
+    }
+
+    fn pair(self, at: usize) -> usize {
+        wire::le16(self.bytes, at)
+    }
+
+    ghost fits = { λ s. Prim.omega arith };
 }
 
 // ---- a place record
 
-pub(crate) fn first(image: &[u8], p: usize) -> usize
-    requires { HoldsPlace image.now p }
-    ensures { NumberIs (place_at form1 image.now p).first 65536 result }
+pub(crate) fn first<B: Bytes>(bytes: B, p: usize) -> usize
+    requires { 14 * p + 14 ≤ B.end bytes }
+    ensures { NumberIs (place_at form1 (B.list bytes) p).first 65536 result }
 {
-    half(image, 14 * p)
+    bytes.pair(14 * p)
 }
 
-pub(crate) fn count(image: &[u8], p: usize) -> usize
-    requires { HoldsPlace image.now p }
-    ensures { NumberIs (place_at form1 image.now p).count 65536 result }
+pub(crate) fn count<B: Bytes>(bytes: B, p: usize) -> usize
+    requires { 14 * p + 14 ≤ B.end bytes }
+    ensures { NumberIs (place_at form1 (B.list bytes) p).count 65536 result }
 {
-    half(image, 14 * p + 2)
+    bytes.pair(14 * p + 2)
 }
 
-pub(crate) fn fallback(image: &[u8], p: usize) -> usize
-    requires { HoldsPlace image.now p }
-    ensures { NumberIs (place_at form1 image.now p).fallback 65536 result }
+pub(crate) fn fallback<B: Bytes>(bytes: B, p: usize) -> usize
+    requires { 14 * p + 14 ≤ B.end bytes }
+    ensures { NumberIs (place_at form1 (B.list bytes) p).fallback 65536 result }
 {
-    half(image, 14 * p + 4)
+    bytes.pair(14 * p + 4)
 }
 
-pub(crate) fn level(image: &[u8], p: usize) -> usize
-    requires { HoldsPlace image.now p }
-    ensures { NumberIs (place_at form1 image.now p).level 65536 result }
+pub(crate) fn level<B: Bytes>(bytes: B, p: usize) -> usize
+    requires { 14 * p + 14 ≤ B.end bytes }
+    ensures { NumberIs (place_at form1 (B.list bytes) p).level 65536 result }
 {
-    half(image, 14 * p + 6)
+    bytes.pair(14 * p + 6)
 }
 
-pub(crate) fn head(image: &[u8], p: usize) -> usize
-    requires { HoldsPlace image.now p }
-    ensures { NumberIs (place_at form1 image.now p).head 65536 result }
+pub(crate) fn head<B: Bytes>(bytes: B, p: usize) -> usize
+    requires { 14 * p + 14 ≤ B.end bytes }
+    ensures { NumberIs (place_at form1 (B.list bytes) p).head 65536 result }
 {
-    half(image, 14 * p + 8)
+    bytes.pair(14 * p + 8)
 }
 
-pub(crate) fn link(image: &[u8], p: usize) -> usize
-    requires { HoldsPlace image.now p }
-    ensures { NumberIs (place_at form1 image.now p).link 65536 result }
+pub(crate) fn link<B: Bytes>(bytes: B, p: usize) -> usize
+    requires { 14 * p + 14 ≤ B.end bytes }
+    ensures { NumberIs (place_at form1 (B.list bytes) p).link 65536 result }
 {
-    half(image, 14 * p + 10)
+    bytes.pair(14 * p + 10)
 }
 
-pub(crate) fn mark(image: &[u8], p: usize) -> usize
-    requires { HoldsPlace image.now p }
-    ensures { NumberIs (place_at form1 image.now p).mark 256 result }
+pub(crate) fn mark<B: Bytes>(bytes: B, p: usize) -> usize
+    requires { 14 * p + 14 ≤ B.end bytes }
+    ensures { NumberIs (place_at form1 (B.list bytes) p).mark 256 result }
 {
-    wide(image[14 * p + 12])
+    bytes.byte(14 * p + 12)
 }
 
-pub(crate) fn spare(image: &[u8], p: usize) -> usize
-    requires { HoldsPlace image.now p }
-    ensures { NumberIs (place_at form1 image.now p).spare 256 result }
+pub(crate) fn spare<B: Bytes>(bytes: B, p: usize) -> usize
+    requires { 14 * p + 14 ≤ B.end bytes }
+    ensures { NumberIs (place_at form1 (B.list bytes) p).spare 256 result }
 {
-    wide(image[14 * p + 13])
+    bytes.byte(14 * p + 13)
 }
 
 // ---- an edge record, where there are q places
 
-pub(crate) fn edge_event(image: &[u8], q: usize, j: usize) -> usize
-    requires { HoldsEdge image.now q j }
-    ensures { NumberIs (edge_at form1 image.now q j).event 256 result }
+pub(crate) fn edge_event<B: Bytes>(bytes: B, q: usize, j: usize) -> usize
+    requires { 14 * q + 4 * j + 4 ≤ B.end bytes }
+    ensures { NumberIs (edge_at form1 (B.list bytes) q j).event 256 result }
 {
-    wide(image[14 * q + 4 * j])
+    bytes.byte(14 * q + 4 * j)
 }
 
-pub(crate) fn edge_spare(image: &[u8], q: usize, j: usize) -> usize
-    requires { HoldsEdge image.now q j }
-    ensures { NumberIs (edge_at form1 image.now q j).spare 256 result }
+pub(crate) fn edge_spare<B: Bytes>(bytes: B, q: usize, j: usize) -> usize
+    requires { 14 * q + 4 * j + 4 ≤ B.end bytes }
+    ensures { NumberIs (edge_at form1 (B.list bytes) q j).spare 256 result }
 {
-    wide(image[14 * q + 4 * j + 1])
+    bytes.byte(14 * q + 4 * j + 1)
 }
 
-pub(crate) fn edge_target(image: &[u8], q: usize, j: usize) -> usize
-    requires { HoldsEdge image.now q j }
-    ensures { NumberIs (edge_at form1 image.now q j).target 65536 result }
+pub(crate) fn edge_target<B: Bytes>(bytes: B, q: usize, j: usize) -> usize
+    requires { 14 * q + 4 * j + 4 ≤ B.end bytes }
+    ensures { NumberIs (edge_at form1 (B.list bytes) q j).target 65536 result }
 {
-    half(image, 14 * q + 4 * j + 2)
+    bytes.pair(14 * q + 4 * j + 2)
 }
 
 // ---- the trailer
@@ -148,9 +180,7 @@ pub(crate) fn has_letters(image: &[u8]) -> bool
     requires { 2 ≤ length image.now }
     ensures { result ≡ has_letters image.now }
 {
-    let n = image.len();
-    let letters = SM;
-    (image[n - 2] == letters[0]) & (image[n - 1] == letters[1])
+    image.ends_with(&SM)
 }
 
 // ---- the offset of a record, as a refusal names it
@@ -172,6 +202,8 @@ pub(crate) fn edge_offset(q: usize, j: usize) -> u32
 // ---- a record of a run
 
 // As one number, little-endian: the end, the length, the mark.
+// kept byte by byte, which the compiler makes one store: with `copy_from_slice` of the number's `to_le_bytes` a log that
+// writes many records took 804 instructions an event in place of 474.
 pub(crate) fn put_record(out: &mut [u8], at: usize, number: usize)
     requires { (at + 8 ≤ length out.old) × (number < 72057594037927936) }
     ensures { out.new

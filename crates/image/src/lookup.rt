@@ -1,28 +1,80 @@
-// The edge of a place of an accepted image: linear up to 8 edges, above that a window and halving.
-ghost use Rattle.std.specs.Prelude.{◌≡◌, ◌+◌, ◌-◌, ◌≤◌, ◌<◌, min};
+// The search of a place's edges for an event: one after the other, or where events rise a window and halving.
+ghost use Rattle.std.specs.Prelude.{◌≡◌, ℕ, ◌+◌, ◌-◌, ◌*◌, ◌≤◌, ◌<◌, min};
 ghost use Rattle.image.specs.Form.{form1, edge_at};
-ghost use Rattle.image.specs.Questions.{seek, questions_at};
-ghost use Rattle.image.specs.Held.{HoldsEdges, Rising, edge_or, FoundIs, Accepted, edges_of};
+ghost use Rattle.image.specs.Questions.{seek};
+ghost use Rattle.image.specs.Held.{Rising};
 
 use crate::field;
+use crate::field::Bytes;
 
-// A number that no edge has.
-pub(crate) const NONE: usize = 4294967295;
+// Edges that can be read, of bytes with so many places: so many from the first on.
+#[derive(Drop)]
+pub(crate) struct Edges<B: Bytes> {
+    pub(crate) bytes: B,
+    pub(crate) places: usize,
+    pub(crate) first: usize,
+    pub(crate) count: usize,
+    ghost held: { 14 * places + 4 * (first + count) ≤ B.end bytes },
+}
 
-pub(crate) fn linear(image: &[u8], places: usize, event: usize, left: usize, j: usize) -> usize
-    requires { HoldsEdges image.now places j left }
-    ensures { result ≡ edge_or (seek (edge_at form1 image.now places) event left j) }
-{
-    let mut left = left;
-    let mut j = j;
-    while 0 < left {
-        if field::edge_event(image, places, j) == event {
-            return j;
+impl<B: Bytes> Edges<B> {
+    pub(crate) fn linear(&self, event: usize) -> Option<usize>
+        ensures { result
+            ≡ seek (edge_at form1 (B.list self.now.bytes) self.now.places) event self.now.count self.now.first }
+    {
+        for j in self.first..self.first + self.count {
+            if field::edge_event(self.bytes, self.places, j) == event {
+                return Some(j);
+            }
         }
-        left -= 1;
-        j += 1;
+        None
     }
-    NONE
+
+    fn halved(&self, event: usize) -> Option<usize>
+        requires { (0 < self.now.count)
+            × Rising (edge_at form1 (B.list self.now.bytes) self.now.places) self.now.first self.now.count
+            × (event < 256) }
+        ensures { result
+            ≡ seek (edge_at form1 (B.list self.now.bytes) self.now.places) event self.now.count self.now.first }
+    {
+        let mut left = self.count;
+        let mut j = self.first;
+        // kept a `while`: each turn leaves a half
+        while 1 < left {
+            let h = left / 2;
+            j += ahead(h, field::edge_event(self.bytes, self.places, j + h), event);
+            left -= h;
+        }
+        if field::edge_event(self.bytes, self.places, j) == event {
+            Some(j)
+        } else {
+            None
+        }
+    }
+
+    // An event among n bytes that rise stands from event + n - 256 to event.
+    pub(crate) fn windowed(&self, event: usize) -> Option<usize>
+        requires { (event < 256)
+            × Rising (edge_at form1 (B.list self.now.bytes) self.now.places) self.now.first self.now.count
+            × ((i : ℕ) → i < self.now.count
+            → (edge_at form1 (B.list self.now.bytes) self.now.places (self.now.first + i)).event < 256) }
+        ensures { result
+            ≡ seek (edge_at form1 (B.list self.now.bytes) self.now.places) event self.now.count self.now.first }
+    {
+        let low = (event + self.count).saturating_sub(256);
+        let high = (event + 1).min(self.count);
+        if low < high {
+            let window = Edges {
+                bytes: self.bytes,
+                places: self.places,
+                first: self.first + low,
+                count: high - low,
+            };
+            window.halved(event)
+        } else {
+            None
+        }
+    }
 }
 
 // How far a half reaches, or 0 where the event stands before it: computed, as no branch could be foretold.
@@ -31,67 +83,4 @@ fn ahead(h: usize, found: usize, event: usize) -> usize
     ensures { (result ≤ h) × (found ≤ event → result ≡ h) × (event < found → result ≡ 0) }
 {
     h * ((event + 256 - found) / 256)
-}
-
-fn halved(image: &[u8], places: usize, event: usize, left: usize, j: usize) -> usize
-    requires { HoldsEdges image.now places j left × (0 < left) × Rising (edge_at form1 image.now places) j left
-        × (event < 256) }
-    ensures { result ≡ edge_or (seek (edge_at form1 image.now places) event left j) }
-{
-    let mut left = left;
-    let mut j = j;
-    while 1 < left {
-        let h = left / 2;
-        j += ahead(h, field::edge_event(image, places, j + h), event);
-        left -= h;
-    }
-    if field::edge_event(image, places, j) == event {
-        j
-    } else {
-        NONE
-    }
-}
-
-fn low(event: usize, n: usize) -> usize
-    requires { (event < 256) × (n < 65536) }
-    ensures { result ≡ event + n - 256 }
-{
-    let s = event + n;
-    if 256 < s { s - 256 } else { 0 }
-}
-
-fn high(event: usize, n: usize) -> usize
-    requires { event < 256 }
-    ensures { result ≡ min (event + 1) n }
-{
-    if event < n { event + 1 } else { n }
-}
-
-// An event among n bytes that rise stands from event + n - 256 to event.
-fn windowed(image: &[u8], places: usize, event: usize, n: usize, j: usize) -> usize
-    requires { HoldsEdges image.now places j n × (event < 256) × (n < 65536)
-        × Rising (edge_at form1 image.now places) j n }
-    ensures { result ≡ edge_or (seek (edge_at form1 image.now places) event n j) }
-{
-    let lo = low(event, n);
-    let hi = high(event, n);
-    if lo < hi {
-        halved(image, places, event, hi - lo, j + lo)
-    } else {
-        NONE
-    }
-}
-
-// The number of the place's edge with the event.
-pub(crate) fn find(image: &[u8], places: usize, place: usize, event: usize) -> usize
-    requires { Accepted image.now places × (place < places) × (event < 256) }
-    ensures { FoundIs ((questions_at form1 image.now places).find place event) (edges_of image.now) result }
-{
-    let first = field::first(image, place);
-    let n = field::count(image, place);
-    if n <= 8 {
-        linear(image, places, event, n, first)
-    } else {
-        windowed(image, places, event, n, first)
-    }
 }

@@ -1,153 +1,135 @@
-// What is asked of the bytes of an image with its place count: the same for any bytes.
-ghost use Rattle.std.specs.Prelude.{◌≡◌, true, ◌<◌};
+// What is asked of any bytes with a place count.
+ghost use Rattle.std.specs.Prelude.{◌≡◌, true, ℕ, ◌<◌, Some};
 ghost use Rattle.meaning.specs.Walk.{next};
-ghost use Rattle.image.specs.Form.{form1, edge_at};
-ghost use Rattle.image.specs.Questions.{seek, questions_at};
-ghost use Rattle.image.specs.Answers.{told_asked, told_edged, told_walked};
+ghost use Rattle.image.specs.Form.{form1};
+ghost use Rattle.image.specs.Questions.{questions_at};
+ghost use Rattle.image.specs.Answers.{told_edged, told_walked};
 ghost use Rattle.image.specs.Calls.{fallback_in, level_in, mark_in, edge_in, next_in};
-ghost use Rattle.image.specs.Held.{HoldsEdges, edge_or, FoundIs, MovedIs};
+ghost use Rattle.image.specs.Held.{HoldsEdges, there_in, SaysOf, MovedIs};
 
-use crate::{Asked, Edged, Moved, Walk, Walked, field, lookup, total};
+use crate::field::Padded;
+use crate::lookup::Edges;
+use crate::{Moved, Place, Walk, field};
+use meaning::{Reason, Refusal};
 
-pub(crate) fn fallback_in(bytes: &[u8], places: u32, place: u32) -> Asked
-    ensures { told_asked result ≡ fallback_in bytes.now places place }
-{
-    if places <= place {
-        return Asked::Refused {
-            number: 20,
-            place: 0,
-        };
-    }
-    Asked::Is(total::fallback(bytes, field::wide32(place)) as u32)
+// Bytes that are asked as an image of so many places.
+#[derive(Clone, Copy)]
+pub(crate) struct Asked<'a> {
+    pub(crate) bytes: &'a [u8],
+    pub(crate) places: u32,
 }
 
-pub(crate) fn level_in(bytes: &[u8], places: u32, place: u32) -> Asked
-    ensures { told_asked result ≡ level_in bytes.now places place }
-{
-    if places <= place {
-        return Asked::Refused {
-            number: 20,
-            place: 0,
-        };
-    }
-    Asked::Is(total::level(bytes, field::wide32(place)) as u32)
-}
-
-pub(crate) fn mark_in(bytes: &[u8], places: u32, place: u32) -> Asked
-    ensures { told_asked result ≡ mark_in bytes.now places place }
-{
-    if places <= place {
-        return Asked::Refused {
-            number: 20,
-            place: 0,
-        };
-    }
-    Asked::Is(total::mark(bytes, field::wide32(place)) as u32)
-}
-
-// Are the edges among the bytes, as those of an accepted image are? Then they are read without a test for each.
-fn among(bytes: &[u8], places: usize, j: usize, n: usize) -> bool
-    requires { (places < 4294967296) × (j < 65536) × (n < 65536) }
-    ensures { result ≡ true → HoldsEdges bytes.now places j n }
-{
-    14 * places + 4 * (j + n) <= bytes.len()
-}
-
-// Of any bytes: an edge after the other, as nothing says that events rise.
-fn seek_any(bytes: &[u8], places: usize, event: usize, left: usize, j: usize) -> usize
-    requires { (places < 4294967296) × (j < 65536) × (left < 65536) }
-    ensures { result ≡ edge_or (seek (edge_at form1 bytes.now places) event left j) }
-{
-    let mut left = left;
-    let mut j = j;
-    while 0 < left {
-        if total::edge_event(bytes, places, j) == event {
-            return j;
+impl<'a> Asked<'a> {
+    // The place, where there is one of that number; else refused by 20.
+    fn there(self, place: u32) -> Result<usize, Refusal>
+        ensures { result ≡ there_in self.entry.places place }
+    {
+        if self.places <= place {
+            return Err(Reason::Place.into());
         }
-        left -= 1;
-        j += 1;
+        Ok(place as usize)
     }
-    lookup::NONE
-}
 
-// The number of the place's edge with the event.
-fn seek_in(bytes: &[u8], places: usize, place: usize, event: usize) -> usize
-    requires { (places < 4294967296) × (place < 4294967296) }
-    ensures { FoundIs ((questions_at form1 bytes.now places).find place event) 131072 result }
-{
-    let n = total::count(bytes, place);
-    let first = total::first(bytes, place);
-    if among(bytes, places, first, n) {
-        lookup::linear(bytes, places, event, n, first)
-    } else {
-        seek_any(bytes, places, event, n, first)
+    pub(crate) fn place(self, place: u32) -> Result<Place, Refusal>
+        ensures { SaysOf result (fallback_in self.entry.bytes.now self.entry.places place)
+            (level_in self.entry.bytes.now self.entry.places place)
+            (mark_in self.entry.bytes.now self.entry.places place) }
+    {
+        let p = self.there(place)?;
+        let bytes = Padded { bytes: self.bytes };
+        Ok(Place {
+            fallback: field::fallback(bytes, p) as u32,
+            level: field::level(bytes, p) as u32,
+            mark: field::mark(bytes, p) as u32,
+        })
     }
-}
 
-pub(crate) fn edge_in(bytes: &[u8], places: u32, place: u32, event: u8) -> Edged
-    ensures { told_edged result ≡ edge_in bytes.now places place event }
-{
-    if places <= place {
-        return Edged::Refused {
-            number: 20,
-            place: 0,
-        };
+    // Are the edges among the bytes, as those of an accepted image are? Then they are read without a test for each.
+    fn among(self, first: usize, count: usize) -> bool
+        requires { (first < 65536) × (count < 65536) }
+        ensures { result ≡ true → HoldsEdges self.entry.bytes.now self.entry.places first count }
+    {
+        14 * self.places as usize + 4 * (first + count) <= self.bytes.len()
     }
-    let q = field::wide32(places);
-    let j = seek_in(bytes, q, field::wide32(place), field::wide(event));
-    if j == lookup::NONE {
-        return Edged::Nothing;
-    }
-    Edged::To(total::edge_target(bytes, q, j) as u32)
-}
 
-// One event. A place has fewer fallbacks than its number, where each is lower; so many are tried, whatever the bytes.
-fn moved_in(bytes: &[u8], places: usize, place: usize, event: usize) -> Moved
-    requires { (places < 4294967296) × (place < 4294967296) }
-    ensures { MovedIs (next (questions_at form1 bytes.now places) place event) 65536 place result }
-{
-    let mut p = place;
-    let mut left = place;
-    let mut steps = 0;
-    let mut j = seek_in(bytes, places, p, event);
-    while j == lookup::NONE {
-        if left == 0 {
-            return Moved { place: 0, steps };
+    // The number of the place's edge with the event.
+    fn find(self, place: usize, event: usize) -> Option<usize>
+        requires { place < 4294967296 }
+        ensures { (result ≡ (questions_at form1 self.entry.bytes.now self.entry.places).find place event)
+            × ((j : ℕ) → result ≡ Some j → j < 131072) }
+    {
+        let padded = Padded { bytes: self.bytes };
+        let places = self.places as usize;
+        let first = field::first(padded, place);
+        let count = field::count(padded, place);
+        if self.among(first, count) {
+            let edges = Edges {
+                bytes: self.bytes,
+                places,
+                first,
+                count,
+            };
+            edges.linear(event)
+        } else {
+            let edges = Edges {
+                bytes: padded,
+                places,
+                first,
+                count,
+            };
+            edges.linear(event)
         }
-        if p == 0 {
-            return Moved { place: 0, steps };
-        }
-        p = total::fallback(bytes, p);
-        left -= 1;
-        steps += 1;
-        j = seek_in(bytes, places, p, event);
     }
-    let target = total::edge_target(bytes, places, j);
-    Moved {
-        place: target,
-        steps,
-    }
-}
 
-pub(crate) fn next_in(bytes: &[u8], places: u32, place: u32, event: u8) -> Walked
-    ensures { told_walked result ≡ next_in bytes.now places place event }
-{
-    if places <= place {
-        return Walked::Refused {
-            number: 20,
-            place: 0,
-        };
+    pub(crate) fn edge(self, place: u32, event: u8) -> Result<Option<u32>, Refusal>
+        ensures { told_edged result ≡ edge_in self.entry.bytes.now self.entry.places place event }
+    {
+        let p = self.there(place)?;
+        match self.find(p, usize::from(event)) {
+            Some(j) => Ok(Some(
+                field::edge_target(Padded { bytes: self.bytes }, self.places as usize, j) as u32,
+            )),
+            None => Ok(None),
+        }
     }
-    let moved = moved_in(
-        bytes,
-        field::wide32(places),
-        field::wide32(place),
-        field::wide(event),
-    );
-    let to = moved.place;
-    Walked::On(Walk {
-        place: to as u32,
-        level: total::level(bytes, to) as u32,
-        steps: moved.steps as u32,
-    })
+
+    // One event. A place has fewer fallbacks than its number, where each is lower; so many are tried, whatever the
+    // bytes.
+    fn moved(self, place: usize, event: usize) -> Moved
+        requires { place < 4294967296 }
+        ensures { MovedIs (next (questions_at form1 self.entry.bytes.now self.entry.places) place event) 65536 place
+            result }
+    {
+        let mut p = place;
+        let mut steps = 0;
+        loop {
+            if let Some(j) = self.find(p, event) {
+                return Moved {
+                    place: field::edge_target(
+                        Padded { bytes: self.bytes },
+                        self.places as usize,
+                        j,
+                    ),
+                    steps,
+                };
+            }
+            if p == 0 || steps == place {
+                return Moved { place: 0, steps };
+            }
+            p = field::fallback(Padded { bytes: self.bytes }, p);
+            steps += 1;
+        }
+    }
+
+    pub(crate) fn next(self, place: u32, event: u8) -> Result<Walk, Refusal>
+        ensures { told_walked result ≡ next_in self.entry.bytes.now self.entry.places place event }
+    {
+        let p = self.there(place)?;
+        let moved = self.moved(p, usize::from(event));
+        Ok(Walk {
+            place: moved.place as u32,
+            level: field::level(Padded { bytes: self.bytes }, moved.place) as u32,
+            steps: moved.steps as u32,
+        })
+    }
 }

@@ -19,7 +19,7 @@ use Rattle.image.specs.Form.{form1, trailer_of}
 use Rattle.image.specs.Rules.{image_rules, check_image}
 use Rattle.image.specs.Questions.{questions}
 use Rattle.image.specs.Calls.{run_rules, run_told, run_answer, run_memory}
-use Rattle.image.proofs.Verdict.{refused_accepted}
+use Rattle.meaning.proofs.Refused.{refused_accepted}
 use Rattle.image.proofs.Judged.{judged_accepted, first_refused, first_accepted}
 use Rattle.lists.specs.Wrote.{Wrote}
 use Rattle.lists.specs.Whole.{decoded}
@@ -135,12 +135,13 @@ module _ (image : List ℕ) (p : ℕ) (log : List ℕ) (at : ℕ) where
       let r = part_ran i to k s e in omega (arith, r.records, run_room (questions image) 1023 at p (drop at log))
 
   module _ (text text' : List ℕ) where
-    pub part_done : (i to k s n : ℕ) (out : List ℕ) → accepted i to k s ≡ part_answer image p log at
+    -- what is written stands in the text that was lent
+    pub part_done : (i to k s n : ℕ) (out written : List ℕ) → accepted i to k s ≡ part_answer image p log at
         → out ≡ run_memory image p at rest (replicate 8184 0)
-        → Wrote text 0 (lines_text (decoded (take (8 * k) out)) log) text' n
+        → Wrote text 0 (lines_text (decoded (take (8 * k) out)) log) written n → text' ≡ written
         → Parted image p log at text text' (record { taken = i; place = to; steps = s; length = n })
-    part_done i to k s n out e m w =
-        let lines : Wrote text 0 (lines_text (part_records image p log at k) log) text' n = rw (← records_are k out m) w in
+    part_done i to k s n out written e m w lent =
+        let lines : Wrote text 0 (lines_text (part_records image p log at k) log) text' n = rw (← records_are k out m, lent) w in
         record { taken = rw (← e); place = rw (← e); steps = rw (← e); lines = rw (← e) lines }
 
     pub part_refused : (n r : ℕ) → refused n r ≡ part_answer image p log at → text' ≡ text

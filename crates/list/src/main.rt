@@ -6,8 +6,8 @@ ghost use Rattle.image.specs.Calls.{places_in};
 ghost use Rattle.image.specs.Rules.{check_image};
 ghost use Rattle.list.specs.Part.{Parted, steps_over};
 
-use compile::Compiled;
-use image::Ran;
+use lists::text::Text;
+use meaning::{Reason, Refusal};
 use std::fs::File;
 use std::io::{self, Read, Write};
 
@@ -29,7 +29,7 @@ const TEXT: usize = 23529;
 const LINE: usize = 64;
 
 // What one part of the run came to: events taken, place, failure steps, and the bytes of its lines.
-#[derive(Clone, Copy)]
+#[derive(Clone, Copy, Debug, Default)]
 struct Part {
     taken: usize,
     place: u32,
@@ -37,38 +37,25 @@ struct Part {
     length: usize,
 }
 
-// The run goes on at the log's event `at`, from a place that the part before it came to.
+// The run goes on at the log's event `at`, from a place that the part before it came to. Kept: the text is lent, and the
+// part has the length of its lines, as `Parted` speaks of the two.
 fn next_part(image: &[u8], place: u32, log: &[u8], at: usize, text: &mut [u8]) -> Part
     requires { (at ≤ length log.now) × (length log.now ≤ 32768) }
     ensures { Parted image.now place log.now at text.old text.new result }
 {
     let mut records = [0u8; RECORDS];
-    let ran = image::run(image, place, at as u32, &log[at..], &mut records);
-    match ran {
-        Ran::Done {
-            taken,
-            place: to,
-            records: k,
-            steps,
-        } => {
-            let used = 8 * k;
-            let length = lists::listing::put_lines(text, 0, &records[..used], log);
+    match image::run(image, place, at as u32, &log[at..], &mut records) {
+        Ok(ran) => {
+            let mut lines = Text { out: text, at: 0 };
+            lines.put_lines(&records[..8 * ran.records], log);
             Part {
-                taken,
-                place: to,
-                steps,
-                length,
+                taken: ran.taken,
+                place: ran.place,
+                steps: ran.steps,
+                length: lines.at,
             }
         }
-        Ran::Refused {
-            number: _,
-            place: _,
-        } => Part {
-            taken: 0,
-            place: 0,
-            steps: 0,
-            length: 0,
-        },
+        Err(_) => Part::default(),
     }
 }
 
@@ -77,7 +64,8 @@ fn show(rt: &HostRuntime, bytes: &[u8]) {
     let _ = io::writer(rt).write_all(bytes);
 }
 
-// Prints the lines of the full list, part by part, and answers the run's failure steps. Every part takes an event.
+// Prints the lines of the full list, part by part, and answers the run's failure steps. Every part takes an event. Kept: a
+// `while`, as how far a part comes is known when it is run.
 fn print_parts(rt: &HostRuntime, image: &[u8], log: &[u8]) -> usize
     requires { (length log.now ≤ 32768) × (0 < places_in (check_image image.now)) }
     ensures { result ≡ steps_over image.now log.now }
@@ -102,41 +90,51 @@ fn print_listing(rt: &HostRuntime, image: &[u8], places: usize, log: &[u8])
     requires { (length log.now ≤ 32768) × (places ≡ places_in (check_image image.now)) × (0 < places) }
 {
     let mut line = [0u8; LINE];
-    let header = lists::listing::put_header(&mut line, 0);
-    show(rt, &line[..header]);
+    let mut header = Text {
+        out: &mut line,
+        at: 0,
+    };
+    header.put_header();
+    let length = header.at;
+    show(rt, &line[..length]);
     let steps = print_parts(rt, image, log);
-    let last = lists::listing::put_last(&mut line, 0, places, steps);
-    show(rt, &line[..last]);
+    let mut last = Text {
+        out: &mut line,
+        at: 0,
+    };
+    last.put_last(places, steps);
+    let length = last.at;
+    show(rt, &line[..length]);
 }
 
-fn print_refused(rt: &HostRuntime, number: usize, place: usize) {
+// Kept: not `{refusal}`, as the text of `put_refused` is promised.
+fn print_refused(rt: &HostRuntime, refusal: Refusal) {
     let mut line = [0u8; LINE];
-    let length = lists::listing::put_refused(&mut line, 0, number, place);
+    let mut text = Text {
+        out: &mut line,
+        at: 0,
+    };
+    text.put_refused(refusal.reason as usize, refusal.place as usize);
+    let length = text.at;
     show(rt, &line[..length]);
 }
 
 // What is printed for a book and a log: the book's and the compile's refusals come before the log's.
-fn print_all(rt: &HostRuntime, book: &[u8], log: &[u8]) {
+fn print_all(rt: &HostRuntime, book: &[u8], log: &[u8]) -> Result<(), Refusal> {
     let mut image = [0u8; IMAGE];
-    match compile::compile(book, &mut image) {
-        Compiled::Refused { number, place } => {
-            print_refused(rt, number as usize, place as usize);
-        }
-        Compiled::Made {
-            length,
-            places,
-            edges: _,
-        } => {
-            if LOG <= log.len() {
-                print_refused(rt, 25, 0);
-            } else {
-                print_listing(rt, &image[..length], places, log);
-            }
-        }
+    let made = compile::compile(book, &mut image)?;
+    if LOG <= log.len() {
+        return Err(Refusal {
+            reason: Reason::Log,
+            place: 0,
+        });
     }
+    print_listing(rt, &image[..made.length], made.places, log);
+    Ok(())
 }
 
-// The file is read until it ends, can't be read on or the buffer is full.
+// The file is read until it ends, can't be read on or the buffer is full. Kept: `fs::read` and `read_to_end` fill a `Vec`,
+// and the program has no heap; `read_exact` doesn't say where a file ends that is shorter.
 fn read_full(file: &mut File, bytes: &mut [u8]) -> usize
     ensures { (result ≤ length bytes.new) × (result ≡ length (take result bytes.new)) }
 {
@@ -151,19 +149,20 @@ fn read_full(file: &mut File, bytes: &mut [u8]) -> usize
 }
 
 // A file that can't be opened reads as empty.
-fn read_file(rt: &HostRuntime, path: &str, bytes: &mut [u8]) -> usize
-    ensures { (result ≤ length bytes.new) × (result ≡ length (take result bytes.new)) }
-{
-    match File::open(rt, path) {
-        Ok(mut file) => read_full(&mut file, bytes),
-        Err(_) => 0,
-    }
+fn read_file<'a>(rt: &HostRuntime, path: &str, bytes: &'a mut [u8]) -> &'a [u8] {
+    let Ok(mut file) = File::open(rt, path) else {
+        return &[];
+    };
+    let length = read_full(&mut file, bytes);
+    &bytes[..length]
 }
 
 fn main(rt: HostRuntime) {
     let mut book = [0u8; BOOK];
-    let n = read_file(&rt, "book.sb", &mut book);
+    let book = read_file(&rt, "book.sb", &mut book);
     let mut log = [0u8; LOG];
-    let m = read_file(&rt, "log.ev", &mut log);
-    print_all(&rt, &book[..n], &log[..m]);
+    let log = read_file(&rt, "log.ev", &mut log);
+    if let Err(refusal) = print_all(&rt, book, log) {
+        print_refused(&rt, refusal);
+    }
 }

@@ -7,21 +7,20 @@ use Prim.Native.Nat.{ℕ, zero, suc, ◌+◌, ◌*◌, ◌-◌, ◌/◌, ◌%◌
 use native.Mathlib.Nat.{pow-suc}
 use native.Mathlib.Omega.{arith}
 use lib.ListN.{length, length-append}
-use borrow.Author.Tests.{lt-ltb, le-ltb}
+use lib.Dec.{ltb}
+use borrow.Author.Tests.{lt-ltb, le-ltb, ltb-true, ltb-false}
 use Rattle.lists.specs.Letters.{letter}
-use Rattle.lists.specs.Wrote.{Wrote}
 use Rattle.lists.specs.Decimal.{digit, decimal_within, decimal}
-use Rattle.lists.proofs.Cases.{by_less}
-use Rattle.lists.proofs.Wrote.{wrote_then}
+use Rattle.meaning.proofs.Cases.{by_bool}
 
 -- more digits than enough change nothing
 decimal_within_enough : (f g n : ℕ) → n < f → n < g → decimal_within f n ≡ decimal_within g n
 decimal_within_enough zero g n h k = absurd (omega arith)
 decimal_within_enough (suc f) zero n h k = absurd (omega arith)
 decimal_within_enough (suc f) (suc g) n h k =
-    by_less n 10
-    (λ small. rw (lt-ltb n 10 small))
-    (λ large. rw (le-ltb n 10 large)
+    by_bool (ltb n 10)
+    (λ t. rw t)
+    (λ t. let large : 10 ≤ n = ltb-false n 10 t in rw t
     (ap (λ (ds : List ℕ). ds ++ (digit (n % 10) ∷ []))
     (decimal_within_enough f g (n / 10) (omega arith) (omega arith))))
 
@@ -36,16 +35,6 @@ decimal_more n large =
     (ap (λ (ds : List ℕ). ds ++ (digit (n % 10) ∷ []))
     (decimal_within_enough n (suc (n / 10)) (n / 10) (omega arith) (omega arith)))
 
--- the writer's two cases
-pub wrote-digit : {out : List ℕ} {at : ℕ} {out' : List ℕ} {r : ℕ} (n : ℕ) → n < 10
-    → Wrote out at (digit n ∷ []) out' r → Wrote out at (decimal n) out' r
-wrote-digit n small w = rw (decimal_digit n small) w
-
-pub wrote_more : {out : List ℕ} {at : ℕ} {out₁ : List ℕ} {next : ℕ} {out₂ : List ℕ} {r : ℕ} (n : ℕ) → 10 ≤ n
-    → Wrote out at (decimal (n / 10)) out₁ next → Wrote out₁ next (digit (n % 10) ∷ []) out₂ r
-    → Wrote out at (decimal n) out₂ r
-wrote_more n large v w = rw (decimal_more n large) (wrote_then v w)
-
 -- the number that digits stand for, after those that stand for n
 abbrev pub valued : ℕ → List ℕ → ℕ
 valued n [] = n
@@ -58,9 +47,9 @@ valued-append n (d ∷ ds) es = valued-append (10 * n + (d - letter "0")) ds es
 valued-within : (f n : ℕ) → n < f → valued 0 (decimal_within f n) ≡ n
 valued-within zero n h = absurd (omega arith)
 valued-within (suc f) n h =
-    by_less n 10
-    (λ small. rw (lt-ltb n 10 small) (omega arith))
-    (λ large. rw (le-ltb n 10 large)
+    by_bool (ltb n 10)
+    (λ t. let small : n < 10 = ltb-true n 10 t in rw t (omega arith))
+    (λ t. let large : 10 ≤ n = ltb-false n 10 t in rw t
     (valued-append 0 (decimal_within f (n / 10)) (digit (n % 10) ∷ [])
     ∙ rw (valued-within f (n / 10) (omega arith)) (omega arith)))
 
@@ -79,9 +68,9 @@ fronted_append ds es f = (f.0, f.1 ++ es, ap (λ (z : List ℕ). z ++ es) f.2, f
 fronted_within : (f n : ℕ) → 0 < n → n < f → Fronted (decimal_within f n)
 fronted_within zero n g h = absurd (omega arith)
 fronted_within (suc f) n g h =
-    by_less n 10
-    (λ small. rw (lt-ltb n 10 small) (n, [], refl, omega arith, omega arith))
-    (λ large. rw (le-ltb n 10 large)
+    by_bool (ltb n 10)
+    (λ t. let small : n < 10 = ltb-true n 10 t in rw t (n, [], refl, omega arith, omega arith))
+    (λ t. let large : 10 ≤ n = ltb-false n 10 t in rw t
     (fronted_append (decimal_within f (n / 10)) (digit (n % 10) ∷ [])
     (fronted_within f (n / 10) (omega arith) (omega arith))))
 
@@ -95,9 +84,9 @@ length-within (suc f) n zero h g = absurd (omega arith)
 length-within (suc f) n (suc zero) h g = rw (lt-ltb n 10 h) (omega arith)
 length-within (suc f) n (suc (suc k)) h g =
     let p : n < 10 ^ suc k * 10 = rw pow-suc at h in
-    by_less n 10
-    (λ small. rw (lt-ltb n 10 small) (omega arith))
-    (λ large. rw (le-ltb n 10 large, length-append)
+    by_bool (ltb n 10)
+    (λ t. let small : n < 10 = ltb-true n 10 t in rw t (omega arith))
+    (λ t. let large : 10 ≤ n = ltb-false n 10 t in rw (t, length-append)
     (omega (arith, length-within f (n / 10) (suc k) (omega arith) (omega arith))))
 
 -- a number below 10 ^ k has at most k digits

@@ -1,19 +1,23 @@
--- The lines of a listing. `lines_step`: the line of the next record, and those after it. `lines_append`: a list in two
--- parts. `line_length`, `lines_length`, `last_length`, `refused_length`: what a buffer must hold. Assumes nothing.
+-- The lines of a listing. `lines_append`: a list in two parts. `lines_more`: the line of a record more; `line_read`: as
+-- the code reads it. `line_length`, `lines_length`, `last_length`, `refused_length`: what a buffer must hold. Assumes
+-- nothing.
 use mathlib.Core.Path.{◌≡◌, refl, sym, ap, subst, ◌∙◌}
-use mathlib.Core.List.{List, [], ◌∷◌, ◌++◌, map, append_assoc}
+use mathlib.Core.List.{List, [], ◌∷◌, ◌++◌, map, append_assoc, append-nil}
 use Prim.Native.Nat.{ℕ, zero, suc, ◌+◌, ◌*◌, ◌-◌, ◌/◌, ◌^◌, ◌≤◌, ◌<◌}
 use native.Mathlib.Omega.{arith}
-use lib.ListN.{length, get_or, length-append}
+use lib.ListN.{length, take, get_or, length-append}
 use lib.Dec.{lit≤}
 use Rattle.wire.specs.Little.{le16_at, le32_at}
-use Rattle.meaning.specs.Records.{Record, recorded}
+use Rattle.meaning.specs.Records.{Record}
 use Rattle.lists.specs.Whole.{record_at, records_from, record_of, decoded}
 use Rattle.lists.specs.Group.{group_of}
 use Rattle.lists.specs.Letters.{letters}
 use Rattle.lists.specs.Decimal.{decimal}
 use Rattle.lists.specs.Listing.{field, line_text, line_of, event_number, lines_text, pair_text, last_text, refused_text}
-use Rattle.lists.proofs.Whole.{records_from-step, record_of_at}
+use Rattle.std.proofs.lemmas.List.{map_more}
+use Rattle.lists.specs.Read.{Reads}
+use Rattle.lists.specs.declared.Record.{Record as Read}
+use Rattle.lists.proofs.Whole.{record_of_at}
 use Rattle.lists.proofs.Decimal.{decimal-length}
 
 pub event_none : (log : List ℕ) (n : ℕ) → n ≡ 0 → 0 ≡ event_number log n
@@ -25,22 +29,6 @@ unfolding event_number
 event_at log zero ne = absurd (ne refl)
 event_at log (suc n) ne = let e : suc n - 1 ≡ n = omega arith in rw e
 
-module _ (records log : List ℕ) (left from end l mark letter : ℕ) (more : 0 < left) (end_is : end ≡ le32_at records from)
-    (length-is : l ≡ le16_at records (from + 4)) (mark-is : mark ≡ get_or records (from + 6) 0)
-    (letter-is : letter ≡ group_of (event_number log end)) where
-  line_here : line_of log (record_of (record_at records from)) ≡ line_text end l mark letter
-  line_here =
-      ap (line_of log) (record_of_at records from)
-      ∙ (λ i. line_of log (recorded (sym end_is i) (sym length-is i) (sym mark-is i)))
-      ∙ ap (line_text end l mark) (sym letter-is)
-
-  pub lines_step : lines_text (map record_of (records_from left records from)) log
-      ≡ line_text end l mark letter ++ lines_text (map record_of (records_from (left - 1) records (from + 8))) log
-  unfolding lines_text
-  lines_step =
-      ap (λ (rs : List (List ℕ)). lines_text (map record_of rs) log) (records_from-step left records from more)
-      ∙ ap (λ (line : List ℕ). line ++ lines_text (map record_of (records_from (left - 1) records (from + 8))) log) line_here
-
 -- a list in two parts is listed one after the other
 pub lines_append : (rs ss : List Record) (log : List ℕ) → lines_text (rs ++ ss) log ≡ lines_text rs log ++ lines_text ss log
 unfolding lines_text
@@ -48,6 +36,24 @@ lines_append [] ss log = refl
 lines_append (r ∷ rs) ss log =
     ap (λ (t : List ℕ). line_of log r ++ t) (lines_append rs ss log)
     ∙ sym (append_assoc (line_of log r) (lines_text rs log) (lines_text ss log))
+
+-- the line of a record more
+pub lines_more : (log : List ℕ) (rs : List (List ℕ)) (i : ℕ) → i < length rs
+    → lines_text (map record_of (take (i + 1) rs)) log
+    ≡ lines_text (map record_of (take i rs)) log ++ line_of log (record_of (get_or rs i []))
+unfolding lines_text
+lines_more log rs i h =
+    let r = record_of (get_or rs i []) in
+    let front = map record_of (take i rs) in
+    ap (λ (qs : List Record). lines_text qs log) (map_more record_of rs i [] h)
+    ∙ lines_append front (r ∷ []) log
+    ∙ ap (λ (t : List ℕ). lines_text front log ++ t) (append-nil (line_of log r))
+
+-- as the code reads it
+pub line_read : (log bytes : List ℕ) (r : Read) (l m letter : ℕ) → Reads bytes r → l ≡ r.length → m ≡ r.mark
+    → letter ≡ group_of (event_number log r.end) → line_text r.end l m letter ≡ line_of log (record_of bytes)
+line_read log bytes r l m letter reads p q f =
+    rw (f, p, q, reads.end, reads.length, reads.mark)
 
 field-length : (n k : ℕ) → n < 10 ^ k → 1 ≤ k → length (field n) ≤ k + 1
 field-length n k h g = omega (arith, length-append (decimal n) (letters " "), decimal-length n k h g)

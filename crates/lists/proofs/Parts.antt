@@ -1,64 +1,34 @@
--- The part of a log: what is refused and what is not, that a part is empty exactly where it is refused (`part_empty`,
+-- The part of a log: that it is inside the log (`part_inside`), that it is empty exactly where it is refused (`part_empty`,
 -- `part_refused`), and that it is the ending of the events read so far (`part-ending`). Assumes nothing.
 use mathlib.Core.Path.{◌≡◌, refl, sym, ap, subst, ◌∙◌}
 use mathlib.Core.Bool.{Bool, true, false}
-use mathlib.Core.Option.{none, some}
+use Rattle.std.specs.Prelude.{None, Some}
 use mathlib.Core.List.{List, [], ◌++◌}
 use Prim.Native.Nat.{ℕ, ◌+◌, ◌-◌, ◌≤◌, ◌<◌}
 use native.Mathlib.Omega.{arith}
 use lib.ListN.{length, take, drop, length-take, length-drop}
 use lib.Seq.{take-add}
 use lib.Dec.{eqb, ltb}
-use borrow.Author.Tests.{eq-eqb, ne_eqb, lt-ltb, le-ltb, ltb-false, eqb-false}
+use borrow.Author.Tests.{ne_eqb, le-ltb, ltb-false, eqb-false}
 use Rattle.meaning.specs.Choice.{when}
 use Rattle.meaning.specs.Text.{events}
 use Rattle.meaning.specs.Answer.{Answer, accepted, refused, faulty}
 use Rattle.lists.specs.Part.{part_answer, part_of, cut}
 
-module _ (log : List ℕ) (base end l : ℕ) where
-  pub part_high : 4294967295 < base + length log → refused 21 0 ≡ part_answer log base end l
+module _ (log : List ℕ) (base end l : ℕ) (low : base + length log ≤ 4294967295) (some-length : l ≡ 0 → ⊥)
+    (starts : base + l ≤ end) (ends : end ≤ base + length log) where
+  part_fine : accepted (end - base - l) l 0 0 ≡ part_answer log base end l
   unfolding part_answer
-  part_high h = rw (lt-ltb 4294967295 (base + length log) h)
-
-  module _ (low : base + length log ≤ 4294967295) where
-    pub part_none : l ≡ 0 → refused 24 0 ≡ part_answer log base end l
-    unfolding part_answer
-    part_none e = rw (le-ltb 4294967295 (base + length log) low, eq-eqb l 0 e)
-
-    module _ (some-length : l ≡ 0 → ⊥) where
-      pub part_long : end < l → refused 24 0 ≡ part_answer log base end l
-      unfolding part_answer
-      part_long h = rw (le-ltb 4294967295 (base + length log) low, ne_eqb l 0 some-length, lt-ltb end l h)
-
-      pub part_early : l ≤ end → end < base + l → refused 24 0 ≡ part_answer log base end l
-      unfolding part_answer
-      part_early g h =
-          rw (le-ltb 4294967295 (base + length log) low, ne_eqb l 0 some-length, le-ltb end l g, lt-ltb end (base + l) h)
-
-      module _ (starts : base + l ≤ end) where
-        pub part_late : base + length log < end → refused 24 0 ≡ part_answer log base end l
-        unfolding part_answer
-        part_late h =
-            rw (
-              le-ltb 4294967295 (base + length log) low,
-              ne_eqb l 0 some-length,
-              le-ltb end l (omega arith),
-              le-ltb end (base + l) starts,
-              lt-ltb (base + length log) end h,
-            )
-
-        pub part_fine : end ≤ base + length log → accepted (end - base - l) l 0 0 ≡ part_answer log base end l
-        unfolding part_answer
-        part_fine h =
-            let e : end - base - (end - base - l) ≡ l = omega arith in
-            rw (
-              le-ltb 4294967295 (base + length log) low,
-              ne_eqb l 0 some-length,
-              le-ltb end l (omega arith),
-              le-ltb end (base + l) starts,
-              le-ltb (base + length log) end h,
-              e,
-            )
+  part_fine =
+      let e : end - base - (end - base - l) ≡ l = omega arith in
+      rw (
+        le-ltb 4294967295 (base + length log) low,
+        ne_eqb l 0 some-length,
+        le-ltb end l (omega arith),
+        le-ltb end (base + l) starts,
+        le-ltb (base + length log) end ends,
+        e,
+      )
 
 -- what holds of an answer: a part that is not refused is not empty, and is inside the log
 abbrev Inside : List ℕ → Answer → Type 0
@@ -67,7 +37,7 @@ Inside log (refused n p) = Unit {0}
 
 -- a rule that is broken refuses, and one that is not says so to those after it
 passed : (P : Answer → Type 0) (n : ℕ) (b : Bool) (p : ℕ) (x : Answer) → P (refused n p) → (b ≡ false → P x)
-    → P (faulty n (when b (some p) none) x)
+    → P (faulty n (when b (Some p) None) x)
 passed P n true p x f g = f
 passed P n false p x f g = g refl
 

@@ -1,22 +1,17 @@
--- Laws of records in bytes. `records_from-step`: one record more. `end_of_at`, `record_of_at`: a record is read in its
--- place. `records_of-joined`, `decoded_bytes`: whole records, and those of a run, are read back. Assumes nothing.
+-- Laws of records in bytes. `end_of_at`, `record_of_at`: a record is read in its place. `chunks_are`: the records as the
+-- code has them. `records_of-joined`, `decoded_bytes`: whole records, and those of a run, are read back. Assumes nothing.
 use mathlib.Core.Path.{◌≡◌, refl, sym, ap, ◌∙◌}
 use mathlib.Core.List.{List, [], ◌∷◌, ◌++◌, map, append_assoc}
-use Prim.Native.Nat.{ℕ, zero, suc, ◌+◌, ◌*◌, ◌-◌, ◌/◌, ◌≤◌, ◌<◌}
+use Prim.Native.Nat.{ℕ, zero, suc, ◌+◌, ◌*◌, ◌/◌, ◌≤◌, ◌<◌}
 use native.Mathlib.Omega.{arith}
 use lib.ListN.{length, take, drop, get_or, length-append, length-take, length-drop}
-use lib.Seq.{get_or-take, get_or-drop, take_at, drop_at}
+use lib.Seq.{get_or-take, get_or-drop, take_at, drop_at, drop-drop}
+use Rattle.std.specs.Simd.{first_chunks}
 use lib.Dec.{lit<}
 use Rattle.wire.specs.Little.{le16_at, le32_at}
 use Rattle.wire.specs.Record.{record_bytes}
 use Rattle.meaning.specs.Records.{Record, recorded}
 use Rattle.lists.specs.Whole.{record_at, records_from, records_of, end_of, joined, record_of, decoded}
-
-pub records_from-step : (n : ℕ) (xs : List ℕ) (at : ℕ) → 0 < n
-    → records_from n xs at ≡ record_at xs at ∷ records_from (n - 1) xs (at + 8)
-unfolding records_from
-records_from-step zero xs at h = absurd (omega arith)
-records_from-step (suc n) xs at h = let e : suc n - 1 ≡ n = omega arith in rw e
 
 pub length-records_from : (n : ℕ) (xs : List ℕ) (at : ℕ) → length (records_from n xs at) ≡ n
 unfolding records_from
@@ -46,6 +41,17 @@ record_of_at xs at =
     let m = record_at-byte xs at 6 (at + 6) (lit< tt) refl in
     λ i. recorded (e i) (l i) (m i)
 
+-- the records of a list, as the code has them
+chunks_from : (n : ℕ) (xs : List ℕ) (at : ℕ) → first_chunks 8 n (drop at xs) ≡ records_from n xs at
+unfolding records_from
+chunks_from zero xs at = refl
+chunks_from (suc n) xs at =
+    ap (λ (rs : List (List ℕ)). record_at xs at ∷ rs)
+    (ap (first_chunks 8 n) (drop-drop 8 at xs) ∙ chunks_from n xs (at + 8))
+
+pub chunks_are : (xs : List ℕ) → first_chunks 8 (length xs / 8) xs ≡ records_of xs
+chunks_are xs = chunks_from (length xs / 8) xs 0
+
 -- a list of whole records
 abbrev pub Eights : List (List ℕ) → Type 0
 Eights [] = Unit {0}
@@ -67,6 +73,11 @@ records_after front (r ∷ rs) at e w =
     ap (λ (xs : List ℕ). records_from (length rs) xs (at + 8)) (sym (append_assoc front r (joined rs)))
     ∙ records_after (front ++ r) rs (at + 8) long w.1 in
     λ i. here i ∷ rest i
+
+pub records_eights : (n : ℕ) (xs : List ℕ) (at : ℕ) → at + 8 * n ≤ length xs → Eights (records_from n xs at)
+unfolding records_from
+records_eights zero xs at h = tt
+records_eights (suc n) xs at h = (length-record_at xs at (omega arith), records_eights n xs (at + 8) (omega arith))
 
 -- whole records are read back one by one
 pub records_of-joined : (rs : List (List ℕ)) → Eights rs → records_of (joined rs) ≡ rs

@@ -1,28 +1,32 @@
 -- Bytes written one after the other are written as one run, whether they fit or not. `wrote_then`: two runs are one.
--- `wrote-byte`, `wrote_all`: a slice, byte by byte. `wrote_fits`, `wrote_start`: where all bytes fit. `wrote_unique`:
--- no second outcome. `Left`: what is left to write completes what was asked for; `left_more`, `left_done`: a turn of a
--- loop, and its end. Assumes nothing.
+-- `wrote_none`, `wrote_out`: where nothing is written. `wrote_fits`, `wrote_start`: where all bytes fit. `wrote_unique`:
+-- no second outcome. Assumes nothing.
 use mathlib.Core.Path.{◌≡◌, refl, sym, ap, ◌∙◌}
 use mathlib.Core.List.{List, [], ◌∷◌, ◌++◌}
 use Prim.Native.Nat.{ℕ, ◌+◌, ◌-◌, ◌≤◌, ◌<◌, min}
 use native.Mathlib.Omega.{arith}
-use native.Mathlib.Numerals.{add-one}
-use lib.ListN.{length, take, drop, get_or, length-append}
-use lib.Seq.{sets, set_out, sets-eq, length-sets, take-suc, take_all, take_at}
+use lib.ListN.{length, take, drop, length-append}
+use lib.Dec.{ltb}
+use borrow.Author.Tests.{ltb-true, ltb-false}
+use lib.Seq.{sets, set_out, sets-eq, length-sets, take_at}
 use Rattle.wire.proofs.Sets.{sets-append, sets_then, sets_out}
 use Rattle.lists.specs.Wrote.{Wrote}
-use Rattle.lists.proofs.Cases.{by_less}
+use Rattle.meaning.proofs.Cases.{by_bool}
 
 -- where the first bytes did not all fit, those after them change nothing
 sets_fitting : (out : List ℕ) (at : ℕ) (a : List ℕ) (next : ℕ) (b : List ℕ)
     → next ≡ at + min (length a) (length out - at)
     → sets (sets out at a) next b ≡ sets out at (a ++ b)
 sets_fitting out at a next b e =
-    by_less (length out - at) (length a)
-    (λ over. sets_out (sets out at a) next b (rw length-sets (omega arith))
+    by_bool (ltb (length out - at) (length a))
+    (λ t.
+    let over : length out - at < length a = ltb-true (length out - at) (length a) t in
+    sets_out (sets out at a) next b (rw length-sets (omega arith))
     ∙ sym (sets_out (sets out at a) (at + length a) b (rw length-sets (omega arith)))
     ∙ sym (sets-append out at a b))
-    (λ fits. sym (sets_then out at next a b (omega arith)))
+    (λ t.
+    let fits : length a ≤ length out - at = ltb-false (length out - at) (length a) t in
+    sym (sets_then out at next a b (omega arith)))
 
 pub wrote_none : (out : List ℕ) (at : ℕ) → Wrote out at [] out at
 wrote_none out at = record { memory = refl; next = omega arith }
@@ -43,15 +47,6 @@ wrote_then {out} {at} {a} {out₁} {next} {b} v w =
       next = let l = wrote-length v in omega (arith, w.next, v.next, length-append a b);
     }
 
-pub wrote-byte : {out : List ℕ} {at : ℕ} {out₁ : List ℕ} {next : ℕ} {out₂ : List ℕ} {r : ℕ} (bytes : List ℕ) (i : ℕ)
-    → i < length bytes → Wrote out at (take i bytes) out₁ next → Wrote out₁ next (get_or bytes i 0 ∷ []) out₂ r
-    → Wrote out at (take (i + 1) bytes) out₂ r
-wrote-byte bytes i h v w = rw (add-one, take-suc bytes i 0 h) (wrote_then v w)
-
-pub wrote_all : {out : List ℕ} {at : ℕ} {out' : List ℕ} {r : ℕ} (bytes : List ℕ) (i : ℕ) → length bytes ≤ i
-    → Wrote out at (take i bytes) out' r → Wrote out at bytes out' r
-wrote_all bytes i h w = rw (take_all i bytes h) at w
-
 -- where all bytes fit: they stand in the buffer, and nothing else has changed
 pub wrote_fits : {out : List ℕ} {at : ℕ} {bytes out' : List ℕ} {r : ℕ} → Wrote out at bytes out' r
     → at + length bytes ≤ length out
@@ -70,14 +65,3 @@ wrote_start {out} {bytes} {out'} {r} w h =
 pub wrote_unique : {out : List ℕ} {at : ℕ} {bytes out₁ out₂ : List ℕ} {r s : ℕ} → Wrote out at bytes out₁ r
     → Wrote out at bytes out₂ s → (out₁ ≡ out₂) × (r ≡ s)
 wrote_unique v w = (v.memory ∙ sym w.memory, v.next ∙ sym w.next)
-
--- once the rest is written from here on, the whole is written
-abbrev pub Left : List ℕ → ℕ → List ℕ → List ℕ → ℕ → List ℕ → Type 0
-Left out₀ at₀ whole out at rest = (out' : List ℕ) (r : ℕ) → Wrote out at rest out' r → Wrote out₀ at₀ whole out' r
-
-pub left_more : {out₀ whole out rest bytes out₁ rest₁ : List ℕ} {at₀ at next : ℕ} → Left out₀ at₀ whole out at rest
-    → rest ≡ bytes ++ rest₁ → Wrote out at bytes out₁ next → Left out₀ at₀ whole out₁ next rest₁
-left_more l e v out' r w = l out' r (rw e (wrote_then v w))
-
-pub left_done : {out₀ whole out : List ℕ} {at₀ at : ℕ} → Left out₀ at₀ whole out at [] → Wrote out₀ at₀ whole out at
-left_done {out = out} {at = at} l = l out at (wrote_none out at)

@@ -5,18 +5,18 @@
 --   part_rules            what is refused, in order
 --   part_answer           offset and length of the part in the log, or the refusal
 --   part_of               the part itself; a refusal gives an empty one
-use Rattle.std.specs.Prelude.{List, [], ◌∷◌, ℕ, ◌+◌, ◌-◌, length, take, drop, eqb, ltb}
+use Rattle.std.specs.Prelude.{List, [], ◌∷◌, ℕ, ◌+◌, ◌-◌, length, take, drop, eqb, ltb, Result}
 use Rattle.meaning.specs.Answer.{Answer, accepted, refused, Rule, rule, judged}
+use Rattle.meaning.specs.Refusal.{told}
+use Rattle.meaning.specs.declared.Refusal.{Refusal}
 use Rattle.lists.specs.declared.Named.{Named}
-use Rattle.lists.specs.declared.Named.TheVariants.{Fine, Refused}
 
 -- every byte of a log is an event
 abbrev pub start_of : List ℕ → ℕ → ℕ → ℕ
 start_of log n l = n - l
 
-abbrev pub part_told : Named → Answer
-part_told (Fine offset l) = accepted offset l 0 0
-part_told (Refused n p) = refused n p
+abbrev pub part_told : Result Named Refusal → Answer
+part_told r = told (λ n. accepted n.offset n.length 0 0) r
 
 -- base plus log length too high; length 0, or over end; the part begins before the log, or ends after it
 abbrev pub part_rules : List ℕ → ℕ → ℕ → ℕ → List Rule

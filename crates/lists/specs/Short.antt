@@ -2,17 +2,18 @@
 -- end just before it.
 --   keep before rs         what is kept of the records that follow the end `before`
 --   short rs               the short list of a list of records
+--   is_kept rs i           whether it keeps the record i
 --   short_of, short_bytes  that of a list in bytes, and its own bytes
 --   short_told             what an answer says, in the numbers of document 01
 --   short_rules            what is refused, in order
 --   short_answer           the number of records kept, or the refusal
 --   short_memory           the buffer as a call leaves it
-use Rattle.std.specs.Prelude.{not, List, [], ◌∷◌, ℕ, ◌%◌, length, eqb, ltb}
+use Rattle.std.specs.Prelude.{Bool, not, ◌||◌, List, [], ◌∷◌, ℕ, ◌-◌, ◌%◌, length, get_or, eqb, ltb, Result}
 use Rattle.wire.specs.Record.{record_size}
 use Rattle.meaning.specs.Choice.{when}
-use Rattle.meaning.specs.Answer.{Answer, accepted, refused, Rule, rule, judged, leaving}
-use Rattle.lists.specs.declared.Short.{Short}
-use Rattle.lists.specs.declared.Short.TheVariants.{Kept, Refused}
+use Rattle.meaning.specs.Answer.{Answer, accepted, Rule, rule, judged, leaving}
+use Rattle.meaning.specs.Refusal.{told}
+use Rattle.meaning.specs.declared.Refusal.{Refusal}
 use Rattle.lists.specs.Whole.{records_of, end_of, joined}
 
 unfoldable pub keep : ℕ → List (List ℕ) → List (List ℕ)
@@ -23,15 +24,18 @@ unfoldable pub short : List (List ℕ) → List (List ℕ)
 short [] = []
 short (r ∷ rs) = r ∷ keep (end_of r) rs
 
+-- the record i of a list, by the one before it
+abbrev pub is_kept : List (List ℕ) → ℕ → Bool
+is_kept rs i = eqb i 0 || not (eqb (end_of (get_or rs i [])) (end_of (get_or rs (i - 1) [])))
+
 abbrev pub short_of : List ℕ → List (List ℕ)
 short_of list = short (records_of list)
 
 abbrev pub short_bytes : List ℕ → List ℕ
 short_bytes list = joined (short_of list)
 
-abbrev pub short_told : Short → Answer
-short_told (Kept n) = accepted n 0 0 0
-short_told (Refused n p) = refused n p
+abbrev pub short_told : Result ℕ Refusal → Answer
+short_told r = told (λ n. accepted n 0 0 0) r
 
 -- no whole records; a short list longer than its buffer
 abbrev pub short_rules : List ℕ → ℕ → List Rule

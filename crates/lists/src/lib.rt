@@ -2,161 +2,124 @@
 // `listing` has the text that the program prints.
 #![tactic(auto)]
 
-ghost use Rattle.std.specs.Prelude.{◌≡◌, ◌+◌, ◌*◌, ◌≤◌, length};
+ghost use Rattle.std.specs.Prelude.{◌≡◌, ◌<◌, length};
 ghost use Rattle.std.proofs.lemmas.List.Edits.{sets};
-ghost use Rattle.lists.specs.Whole.{records_from, joined};
-ghost use Rattle.lists.specs.Short.{keep, short_told, short_answer, short_memory};
+ghost use Rattle.lists.specs.Whole.{joined};
+ghost use Rattle.lists.specs.Short.{short, is_kept, short_told, short_answer, short_memory};
+ghost use Rattle.lists.specs.Read.{Reads};
 ghost use Rattle.lists.specs.Part.{part_told, part_answer, part_of};
 ghost use Rattle.lists.specs.Group.{group_of};
+
+use meaning::{Reason, Refusal};
+use text::Text;
 
 pub mod listing;
 pub mod text;
 
 const RECORD: usize = 8;
 
-#[derive(Clone, Copy)]
-pub enum Short {
-    Kept(usize),
-    Refused { number: u32, place: u32 },
-}
-
 // The part that an end and a length name, by its offset in the log and its length there.
+#[derive(Clone, Copy, Debug, PartialEq, Eq, Hash)]
+pub struct Named {
+    pub offset: usize,
+    pub length: usize,
+}
+
+// What eight bytes of a list say.
 #[derive(Clone, Copy)]
-pub enum Named {
-    Fine { offset: usize, length: usize },
-    Refused { number: u32, place: u32 },
+struct Record {
+    end: u32,
+    length: u16,
+    mark: u8,
 }
 
-// How many of the `left` records from `at` on are kept, where `before` is the end just before them.
-fn count_kept(list: &[u8], left: usize, at: usize, before: usize) -> usize
-    requires { at + 8 * left ≤ length list.now }
-    ensures { result ≡ length (keep before (records_from left list.now at)) }
-{
-    let mut left = left;
-    let mut at = at;
-    let mut before = before;
-    let mut kept = 0;
-    while 0 < left {
-        let end = wire::le32(list, at);
-        let last = before;
-        before = end;
-        left -= 1;
-        at += RECORD;
-        if end != last {
-            kept += 1;
-        }
-    }
-    kept
-}
+impl From<[u8; RECORD]> for Record {
+    ghost from_gives = { λ bytes r. Reads bytes r };
 
-// Those records are written from the start of `out` on.
-fn write_kept(list: &[u8], left: usize, at: usize, before: usize, out: &mut [u8])
-    requires { at + 8 * left ≤ length list.now }
-    ensures { out.new
-        ≡ sets out.old 0 (joined (keep before (records_from left list.now at))) }
-{
-    let mut left = left;
-    let mut at = at;
-    let mut before = before;
-    let mut to = 0;
-    while 0 < left {
-        let from = at;
-        let end = wire::le32(list, from);
-        let last = before;
-        before = end;
-        left -= 1;
-        at += RECORD;
-        if end != last {
-            to = text::put_bytes(out, to, &list[from..at]);
+    fn from(bytes: [u8; RECORD]) -> Record {
+        let [e0, e1, e2, e3, l0, l1, mark, _] = bytes;
+        Record {
+            end: u32::from_le_bytes([e0, e1, e2, e3]),
+            length: u16::from_le_bytes([l0, l1]),
+            mark,
         }
     }
 }
 
 // A record is kept if it is the first, or if its end differs from the end just before it.
-pub fn short_list(list: &[u8], out: &mut [u8]) -> Short
+fn is_kept(records: &[[u8; RECORD]], i: usize) -> bool
+    requires { i < length records.now }
+    ensures { result ≡ is_kept records.now i }
+{
+    i == 0 || Record::from(records[i]).end != Record::from(records[i - 1]).end
+}
+
+fn count_kept(records: &[[u8; RECORD]]) -> usize
+    ensures { result ≡ length (short records.now) }
+{
+    (0..records.len()).filter(|i| is_kept(records, *i)).count()
+}
+
+// The records that are kept, from the start of `out` on.
+fn write_kept(records: &[[u8; RECORD]], out: &mut [u8])
+    ensures { out.new ≡ sets out.old 0 (joined (short records.now)) }
+{
+    let mut text = Text { out, at: 0 };
+    for (i, record) in records.iter().enumerate() {
+        if is_kept(records, i) {
+            text.put_bytes(record);
+        }
+    }
+}
+
+// The short list; the answer is how many records it keeps.
+pub fn short_list(list: &[u8], out: &mut [u8]) -> Result<usize, Refusal>
     ensures answer { short_told result ≡ short_answer list.now (length out.old) }
     ensures memory { out.new ≡ short_memory list.now out.old }
 {
-    if list.len() % RECORD != 0 {
-        return Short::Refused {
-            number: 22,
-            place: 0,
-        };
+    let (records, rest) = list.as_chunks::<RECORD>();
+    if !rest.is_empty() {
+        return Err(Reason::ListLength.into());
     }
-    let records = list.len() / RECORD;
-    // no end of the first record, so that it is kept
-    let before = wire::le32(list, 0) + 1;
-    let kept = count_kept(list, records, 0, before);
+    let kept = count_kept(records);
     if out.len() < RECORD * kept {
-        return Short::Refused {
-            number: 23,
-            place: 0,
-        };
+        return Err(Reason::ListRoom.into());
     }
-    write_kept(list, records, 0, before, out);
-    Short::Kept(kept)
+    write_kept(records, out);
+    Ok(kept)
 }
 
 // Where the part that an end and a length name stands in the log.
-pub fn part_answer(log: &[u8], base: u32, end: u32, length: u32) -> Named
+#[tactic(auto, unfolding(crate::specs::Part::part_answer))]
+pub fn part_answer(log: &[u8], base: u32, end: u32, length: u32) -> Result<Named, Refusal>
     ensures { part_told result ≡ part_answer log.now base end length }
 {
     let base = base as usize;
     let end = end as usize;
     let length = length as usize;
-    if 4294967295 - base < log.len() {
-        return Named::Refused {
-            number: 21,
-            place: 0,
-        };
+    if u32::MAX as usize - base < log.len() {
+        return Err(Reason::Base.into());
     }
-    if length == 0 {
-        return Named::Refused {
-            number: 24,
-            place: 0,
-        };
+    if length == 0 || end < base + length || base + log.len() < end {
+        return Err(Reason::Part.into());
     }
-    if end < length {
-        return Named::Refused {
-            number: 24,
-            place: 0,
-        };
-    }
-    if end < base + length {
-        return Named::Refused {
-            number: 24,
-            place: 0,
-        };
-    }
-    if base + log.len() < end {
-        return Named::Refused {
-            number: 24,
-            place: 0,
-        };
-    }
-    Named::Fine {
+    Ok(Named {
         offset: end - base - length,
         length,
-    }
+    })
 }
 
 // The part of the log itself; empty exactly on refusal.
 pub fn part(log: &[u8], base: u32, end: u32, length: u32) -> &[u8]
     ensures { result.now ≡ part_of log.now base end length }
 {
-    let named = part_answer(log, base, end, length);
-    match named {
-        Named::Fine { offset, length } => {
-            let past = offset + length;
-            &log[offset..past]
-        }
-        Named::Refused {
-            number: _,
-            place: _,
-        } => &log[..0],
+    match part_answer(log, base, end, length) {
+        Ok(Named { offset, length }) => &log[offset..offset + length],
+        Err(_) => &log[..0],
     }
 }
 
+#[tactic(auto, unfolding(crate::specs::Group::group_of))]
 pub fn group(event: u8) -> u8
     ensures { result ≡ group_of event }
 {

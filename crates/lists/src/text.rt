@@ -1,40 +1,42 @@
-// Bytes written into a lent buffer, one after the other. What does not fit is not written, and the answer is the place
-// after what was.
+// Bytes written into a lent buffer, one after the other. What does not fit is not written.
 ghost use Rattle.std.specs.Prelude.{[], ◌∷◌};
-ghost use Rattle.lists.specs.Wrote.{Wrote};
 ghost use Rattle.lists.specs.Decimal.{decimal};
 
-pub fn put_byte(out: &mut [u8], at: usize, byte: u8) -> usize
-    ensures { Wrote out.old at (byte ∷ []) out.new result }
-{
-    if at < out.len() {
-        out[at] = byte;
-        at + 1
-    } else {
-        at
-    }
+// A lent buffer, and the place after what was written.
+#[derive(Drop)]
+pub struct Text<'a> {
+    pub out: &'a mut [u8],
+    pub at: usize,
 }
 
-pub fn put_bytes(out: &mut [u8], at: usize, bytes: &[u8]) -> usize
-    ensures { Wrote out.old at bytes.now out.new result }
-{
-    let mut at = at;
-    let mut i = 0;
-    while i < bytes.len() {
-        at = put_byte(out, at, bytes[i]);
-        i += 1;
-    }
-    at
-}
+impl Text<'_> {
+    ghost use Rattle.lists.specs.Writes.{Writes};
 
-// A call for each digit, the highest first: at most twenty.
-pub fn put_decimal(out: &mut [u8], at: usize, number: usize) -> usize
-    ensures { Wrote out.old at (decimal number) out.new result }
-{
-    if number < 10 {
-        put_byte(out, at, b'0' + number as u8)
-    } else {
-        let next = put_decimal(out, at, number / 10);
-        put_byte(out, next, b'0' + (number % 10) as u8)
+    pub fn put_byte(&mut self, byte: u8)
+        ensures { Writes self.old (byte ∷ []) self.new }
+    {
+        if self.at < self.out.len() {
+            self.out[self.at] = byte;
+            self.at += 1;
+        }
+    }
+
+    pub fn put_bytes(&mut self, bytes: &[u8])
+        ensures { Writes self.old bytes.now self.new }
+    {
+        for byte in bytes {
+            self.put_byte(*byte);
+        }
+    }
+
+    // A call for each digit, the highest first: at most twenty. Kept: `write!` prints a number too, but what it wrote is
+    // promised of an `Ok` alone, and no clause says that a writer which never fails answers one.
+    pub fn put_decimal(&mut self, number: usize)
+        ensures { Writes self.old (decimal number) self.new }
+    {
+        if number >= 10 {
+            self.put_decimal(number / 10);
+        }
+        self.put_byte(b'0' + (number % 10) as u8);
     }
 }

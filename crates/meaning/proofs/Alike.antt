@@ -2,7 +2,7 @@
 -- `walk_alike`, `records_alike`, `run_alike`; and where their heads are the same too, their places name the same chains:
 -- `named_alike`. Assumes nothing.
 use mathlib.Core.Path.{◌≡◌, refl, ap}
-use mathlib.Core.Option.{Option, none, some}
+use Rattle.std.specs.Prelude.{Option, None, Some}
 use mathlib.Core.List.{List, [], ◌∷◌}
 use Prim.Native.Nat.{ℕ, zero, suc, ◌-◌, ◌<◌}
 use native.Mathlib.Omega.{arith}
@@ -21,15 +21,15 @@ pub record Alike (M N : Image) : Type 0 where
   pub level : (p : ℕ) → p < N.count → M.level p ≡ N.level p
   pub mark : (p : ℕ) → p < N.count → M.mark p ≡ N.mark p
   pub find : (p a : ℕ) → p < N.count → M.find p a ≡ N.find p a
-  pub target : (p a j : ℕ) → p < N.count → N.find p a ≡ some j → M.target j ≡ N.target j
+  pub target : (p a j : ℕ) → p < N.count → N.find p a ≡ Some j → M.target j ≡ N.target j
 
 module _ {M N : Image} (A : Alike M N) (G : Levels N) where
   pub edge_alike : (p a : ℕ) → p < N.count → edge_of M p a ≡ edge_of N p a
   edge_alike p a b = go (N.find p a) refl
     where
       go : (o : Option ℕ) → N.find p a ≡ o → edge_of M p a ≡ edge_of N p a
-      go none e = rw (A.find p a b, e)
-      go (some j) e = rw (A.find p a b, e) (ap {B = Option ℕ} some (A.target p a j b e))
+      go None e = rw (A.find p a b, e)
+      go (Some j) e = rw (A.find p a b, e) (ap {B = Option ℕ} Some (A.target p a j b e))
 
   within_alike : (f p a : ℕ) → p < N.count → next_within f M p a ≡ next_within f N p a
   within_alike zero p a b = rw (edge_alike p a b)

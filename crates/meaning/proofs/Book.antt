@@ -3,7 +3,7 @@
 -- Rising, Under n, rising_away, read_length, read_under. Assumes nothing.
 use mathlib.Core.Path.{◌≡◌, refl, sym, ap, ◌∙◌}
 use mathlib.Core.Logic.{◌≢◌, ⊎_elim}
-use mathlib.Core.Option.{Option, none, some}
+use Rattle.std.specs.Prelude.{Option, None, Some}
 use mathlib.Core.List.{List, [], ◌∷◌, map}
 use mathlib.Core.List.Memᴰ
 use mathlib.Core.List.{Memᴰ}
@@ -17,27 +17,27 @@ use Rattle.meaning.specs.Book.{Edge, edge, State, state, Book, state_at, look, d
 use Rattle.meaning.proofs.Cases.{by_bool, by_option, none_some}
 
 abbrev pub Names : Delta → (ℕ → List ℕ) → Type 0
-Names δ out = (q a p : ℕ) → δ q a ≡ some p → Memᴰ a (out q)
+Names δ out = (q a p : ℕ) → δ q a ≡ Some p → Memᴰ a (out q)
 
 abbrev pub Only : Delta → (ℕ → List ℕ) → Type 0
-Only δ out = (q a : ℕ) → Memᴰ a (out q) → (p : ℕ) × (δ q a ≡ some p)
+Only δ out = (q a : ℕ) → Memᴰ a (out q) → (p : ℕ) × (δ q a ≡ Some p)
 
 abbrev pub Rising : Delta → Type 0
-Rising δ = (q a p : ℕ) → δ q a ≡ some p → q < p
+Rising δ = (q a p : ℕ) → δ q a ≡ Some p → q < p
 
 abbrev pub Under : ℕ → Delta → Type 0
-Under n δ = (q a p : ℕ) → δ q a ≡ some p → p < n
+Under n δ = (q a p : ℕ) → δ q a ≡ Some p → p < n
 
-pub rising_away : (δ : Delta) → Rising δ → (q a p : ℕ) → δ q a ≡ some p → p ≢ 0
+pub rising_away : (δ : Delta) → Rising δ → (q a p : ℕ) → δ q a ≡ Some p → p ≢ 0
 rising_away δ up q a p e z = let l = up q a p e in omega arith
 
 -- the edge found is one of the list's
-pub look-mem : (es : List Edge) (a p : ℕ) → look es a ≡ some p → Memᴰ (edge a p) es
+pub look-mem : (es : List Edge) (a p : ℕ) → look es a ≡ Some p → Memᴰ (edge a p) es
 look-mem [] a p f = none_some refl f
 look-mem (e ∷ es) a p f =
     by_bool (eqb e.event a)
     (λ g.
-    let h : ◌≡◌ {A = Option ℕ} (some e.target) (some p) = sym (rw g) ∙ f in
+    let h : ◌≡◌ {A = Option ℕ} (Some e.target) (Some p) = sym (rw g) ∙ f in
     let z : p ≡ e.target = cc in
     let y : a ≡ e.event = sym (eqb-true e.event a g) in
     Memᴰ.head (λ i. record { event = y i; target = z i }))
@@ -47,7 +47,7 @@ event_mem : (e : Edge) (es : List Edge) → Memᴰ e es → Memᴰ e.event (map 
 event_mem e es (Memᴰ.head f) = Memᴰ.head (ap (λ (e : Edge). e.event) f)
 event_mem e es (Memᴰ.tail {xs = ds} m) = Memᴰ.tail (event_mem e ds m)
 
-look_only : (es : List Edge) (a : ℕ) → Memᴰ a (map (λ (e : Edge). e.event) es) → (p : ℕ) × (look es a ≡ some p)
+look_only : (es : List Edge) (a : ℕ) → Memᴰ a (map (λ (e : Edge). e.event) es) → (p : ℕ) × (look es a ≡ Some p)
 look_only [] a m = absurd (Memᴰ.not-nil m)
 look_only (e ∷ es) a m =
     by_bool (eqb e.event a) (λ g. (e.target, rw g))
@@ -55,7 +55,7 @@ look_only (e ∷ es) a m =
     ⊎_elim (λ f. (e.target, rw (eq-eqb e.event a (sym f)))) (λ k. let i = look_only es a k in (i.0, rw g i.1))
     (Memᴰ.cases_cons m))
 
-pub delta-mem : (B : Book) (q a p : ℕ) → delta B q a ≡ some p → Memᴰ (edge a p) (state_at B q).edges
+pub delta-mem : (B : Book) (q a p : ℕ) → delta B q a ≡ Some p → Memᴰ (edge a p) (state_at B q).edges
 delta-mem B q a p e = look-mem (state_at B q).edges a p e
 
 pub delta_names : (B : Book) → Names (delta B) (outs B)
@@ -70,18 +70,18 @@ state_outside [] q l = refl
 state_outside (x ∷ B) zero l = absurd (let w : ⊥ = omega arith in w)
 state_outside (x ∷ B) (suc q) l = state_outside B q (omega arith)
 
-pub delta_outside : (B : Book) (q a : ℕ) → length B ≤ q → delta B q a ≡ none
+pub delta_outside : (B : Book) (q a : ℕ) → length B ≤ q → delta B q a ≡ None
 delta_outside B q a l = ap (λ (s : State). look s.edges a) (state_outside B q l)
 
 -- a word that leads from q to p has at most p - q events
-pub read_length : (δ : Delta) → Rising δ → (w : Text) (q p : ℕ) → read δ q w ≡ some p → q + length w ≤ p
+pub read_length : (δ : Delta) → Rising δ → (w : Text) (q p : ℕ) → read δ q w ≡ Some p → q + length w ≤ p
 read_length δ up [] q p e = let f : q ≡ p = cc in omega arith
 read_length δ up (a ∷ w) q p e =
     by_option (δ q a) (λ f. none_some refl (sym (rw f) ∙ e))
     (λ r f. let l = up q a r f in let i = read_length δ up w r p (sym (rw f) ∙ e) in omega arith)
 
 -- from a state below n it leads below n
-pub read_under : (δ : Delta) (n : ℕ) → Under n δ → (w : Text) (q p : ℕ) → q < n → read δ q w ≡ some p → p < n
+pub read_under : (δ : Delta) (n : ℕ) → Under n δ → (w : Text) (q p : ℕ) → q < n → read δ q w ≡ Some p → p < n
 read_under δ n un [] q p l e = let f : q ≡ p = cc in omega arith
 read_under δ n un (a ∷ w) q p l e =
     by_option (δ q a) (λ f. none_some refl (sym (rw f) ∙ e))

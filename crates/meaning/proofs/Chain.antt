@@ -5,7 +5,7 @@
 use mathlib.Core.Path.{◌≡◌, refl, sym, ap, ◌∙◌}
 use mathlib.Core.Logic.{◌≢◌, ◌⊎◌, inl, inr, ◌↔◌, ⊎_elim}
 use mathlib.Core.Bool.{Bool, true, false}
-use mathlib.Core.Option.{Option, none, some}
+use Rattle.std.specs.Prelude.{Option, None, Some}
 use mathlib.Core.List.{[], ◌∷◌, ◌++◌, reverse, reverse_aux, reverse-append}
 use mathlib.Core.List.{Memᴰ}
 use Prim.Native.Nat.{ℕ, zero, suc, ◌+◌, ◌≤◌, ◌<◌}
@@ -64,50 +64,50 @@ In-has q r (x ∷ c) (mathlib.Core.List.Memᴰ.tail m) = by_bool (eqb x.state q)
 -- c lists the states other than 0 that `at` has at a number below b, each with the least such number
 pub record Lists (at : ℕ → Option ℕ) (b : ℕ) (c : Chain) : Type 0 where
   pub nonzero : (x : Live) → Memᴰ x c → x.state ≢ 0
-  pub stands : (x : Live) → Memᴰ x c → at x.reach ≡ some x.state
-  pub least : (x : Live) → Memᴰ x c → (m : ℕ) → at m ≡ some x.state → x.reach ≤ m
+  pub stands : (x : Live) → Memᴰ x c → at x.reach ≡ Some x.state
+  pub least : (x : Live) → Memᴰ x c → (m : ℕ) → at m ≡ Some x.state → x.reach ≤ m
   pub below : Below b c
-  pub full : (q n : ℕ) → q ≢ 0 → n < b → at n ≡ some q → In q c
+  pub full : (q n : ℕ) → q ≢ 0 → n < b → at n ≡ Some q → In q c
   pub falling : Falling c
 
 -- what stands in a chain after a state is put in front
 abbrev Put : Option ℕ → ℕ → Chain → Live → Type 0
-Put o r d x = (o ≡ some x.state) × (x.reach ≡ r) × (has x.state d ≡ false)
+Put o r d x = (o ≡ Some x.state) × (x.reach ≡ r) × (has x.state d ≡ false)
 
 mem-put : (o : Option ℕ) (r : ℕ) (d : Chain) (x : Live) → Memᴰ x (put o r d) → Memᴰ x d ⊎ Put o r d x
-mem-put none r d x m = inl m
-mem-put (some p) r d x m = by (has p d) refl m
+mem-put None r d x m = inl m
+mem-put (Some p) r d x m = by (has p d) refl m
   where
-    new : has p d ≡ false → (x ≡ live p r) ⊎ Memᴰ x d → Memᴰ x d ⊎ Put (some p) r d x
+    new : has p d ≡ false → (x ≡ live p r) ⊎ Memᴰ x d → Memᴰ x d ⊎ Put (Some p) r d x
     new e (inl f) =
         let g : x.state ≡ p = ap (λ (y : Live). y.state) f in
-        inr (ap {B = Option ℕ} some (sym g), ap (λ (y : Live). y.reach) f, rw g e)
+        inr (ap {B = Option ℕ} Some (sym g), ap (λ (y : Live). y.reach) f, rw g e)
     new e (inr h) = inl h
 
-    by : (b : Bool) → has p d ≡ b → Memᴰ x (when b d (live p r ∷ d)) → Memᴰ x d ⊎ Put (some p) r d x
+    by : (b : Bool) → has p d ≡ b → Memᴰ x (when b d (live p r ∷ d)) → Memᴰ x d ⊎ Put (Some p) r d x
     by true e m = inl m
     by false e m = new e (mathlib.Core.List.Memᴰ.cases_cons m)
 
-put_in : (o : Option ℕ) (r : ℕ) (d : Chain) (q : ℕ) → q ≢ 0 → (o ≡ some q) ⊎ In q d → In q (put o r d)
-put_in none r d q nz (inl e) = none_some refl e
-put_in none r d q nz (inr i) = i
-put_in (some p) r d q nz w = by_bool (has p d) (λ e. rw e (old e w)) (λ e. rw e (new w))
+put_in : (o : Option ℕ) (r : ℕ) (d : Chain) (q : ℕ) → q ≢ 0 → (o ≡ Some q) ⊎ In q d → In q (put o r d)
+put_in None r d q nz (inl e) = none_some refl e
+put_in None r d q nz (inr i) = i
+put_in (Some p) r d q nz w = by_bool (has p d) (λ e. rw e (old e w)) (λ e. rw e (new w))
   where
-    old : has p d ≡ true → (◌≡◌ {A = Option ℕ} (some p) (some q)) ⊎ In q d → In q d
+    old : has p d ≡ true → (◌≡◌ {A = Option ℕ} (Some p) (Some q)) ⊎ In q d → In q d
     old e (inl f) = let g : p ≡ q = cc in has-In q d nz (rw g at e)
     old e (inr i) = i
 
-    new : (◌≡◌ {A = Option ℕ} (some p) (some q)) ⊎ In q d → In q (live p r ∷ d)
+    new : (◌≡◌ {A = Option ℕ} (Some p) (Some q)) ⊎ In q d → In q (live p r ∷ d)
     new (inl f) = let g : q ≡ p = cc in (r, mathlib.Core.List.Memᴰ.head (ap (λ (k : ℕ). live k r) g))
     new (inr i) = (i.0, mathlib.Core.List.Memᴰ.tail i.1)
 
 put-falling : (o : Option ℕ) (r : ℕ) (d : Chain) → Below r d → Falling d → Falling (put o r d)
-put-falling none r d l f = f
-put-falling (some p) r d l f = by_bool (has p d) (λ e. rw e f) (λ e. rw e (l, f))
+put-falling None r d l f = f
+put-falling (Some p) r d l f = by_bool (has p d) (λ e. rw e f) (λ e. rw e (l, f))
 
 -- the state that `at` has at r put in front of what it has below: all below b, where nothing new stands between
 module _ (at : ℕ → Option ℕ) (r b : ℕ) (d : Chain) (L : Lists at r d) (o : Option ℕ) (here : at r ≡ o) (more : r < b)
-    (between : (q n : ℕ) → q ≢ 0 → r < n → n < b → at n ≡ some q → (o ≡ some q) ⊎ In q d) where
+    (between : (q n : ℕ) → q ≢ 0 → r < n → n < b → at n ≡ Some q → (o ≡ Some q) ⊎ In q d) where
   put_lists : Lists at b (put o r d)
   put_lists =
       record {
@@ -124,10 +124,10 @@ module _ (at : ℕ → Option ℕ) (r b : ℕ) (d : Chain) (L : Lists at r d) (o
       }
     where
       old_new : {A : Type 0} (x : Live) → Memᴰ x (put o r d) → (Memᴰ x d → A)
-          → ((o ≡ some x.state) → (x.reach ≡ r) → (has x.state d ≡ false) → A) → A
+          → ((o ≡ Some x.state) → (x.reach ≡ r) → (has x.state d ≡ false) → A) → A
       old_new x m f g = ⊎_elim (λ h. f h) (λ h. g h.0 h.1 h.2) (mem-put o r d x m)
 
-      not_before : {A : Type 0} (x : Live) (k : ℕ) → has x.state d ≡ false → k < r → at k ≡ some x.state → A
+      not_before : {A : Type 0} (x : Live) (k : ℕ) → has x.state d ≡ false → k < r → at k ≡ Some x.state → A
       not_before x k g h a =
           let i = L.full x.state k (λ z. true_false (has-zero x.state d z) g) h a in
           true_false (In-has x.state i.0 d i.1) g
@@ -144,7 +144,7 @@ rest_lists at b x c L =
       falling = L.falling.1;
     }
   where
-    go : (q n : ℕ) → at n ≡ some q → n < x.reach → In q (x ∷ c) → In q c
+    go : (q n : ℕ) → at n ≡ Some q → n < x.reach → In q (x ∷ c) → In q c
     go q n a l i = by (mathlib.Core.List.Memᴰ.cases_cons i.1)
       where
         by : (live q i.0 ≡ x) ⊎ Memᴰ (live q i.0) c → In q c
@@ -154,7 +154,7 @@ rest_lists at b x c L =
             absurd (let w : ⊥ = omega arith in w)
         by (inr m) = (i.0, m)
 
-none_lists : (at : ℕ → Option ℕ) → at 0 ≡ some 0 → Lists at 1 []
+none_lists : (at : ℕ → Option ℕ) → at 0 ≡ Some 0 → Lists at 1 []
 none_lists at z =
     record {
       nonzero = λ x m. absurd (mathlib.Core.List.Memᴰ.not-nil m);
@@ -163,7 +163,7 @@ none_lists at z =
       below = λ x m. absurd (mathlib.Core.List.Memᴰ.not-nil m);
       full = λ q n nz l a.
           let e : n ≡ 0 = omega arith in
-          let f : at 0 ≡ some q = rw e at a in
+          let f : at 0 ≡ Some q = rw e at a in
           let g : q ≡ 0 = cc in
           absurd (nz g);
       falling = tt;
@@ -172,8 +172,8 @@ none_lists at z =
 module _ (δ : Delta) where
   module _ (h : Text) (a : ℕ) where
     -- what is alive after the event comes from state 0 or from a state of the chain
-    from : (c : Chain) (b : ℕ) → Lists (last δ h) b c → (q n : ℕ) → 1 ≤ n → n < suc b → last δ (a ∷ h) n ≡ some q
-        → (δ 0 a ≡ some q) ⊎ ((p : ℕ) × In p c × (δ p a ≡ some q))
+    from : (c : Chain) (b : ℕ) → Lists (last δ h) b c → (q n : ℕ) → 1 ≤ n → n < suc b → last δ (a ∷ h) n ≡ Some q
+        → (δ 0 a ≡ Some q) ⊎ ((p : ℕ) × In p c × (δ p a ≡ Some q))
     from c b L q zero l k e = absurd (let w : ⊥ = omega arith in w)
     from c b L q (suc n) l k e =
         let t = then_some δ h a n q e in
@@ -207,8 +207,8 @@ module _ (δ : Delta) where
         one_le : (n : ℕ) → (n ≡ 0 → ⊥) → 1 ≤ n
         one_le n f = omega arith
 
-        state-zero : (y : Live) → y.reach ≡ 0 → last δ h y.reach ≡ some y.state → y.state ≡ 0
-        state-zero y z e = let f : last δ h 0 ≡ some y.state = rw z at e in cc
+        state-zero : (y : Live) → y.reach ≡ 0 → last δ h y.reach ≡ Some y.state → y.state ≡ 0
+        state-zero y z e = let f : last δ h 0 ≡ Some y.state = rw z at e in cc
 
   -- the chain of a history lists what its endings lead to
   pub chain_r_lists : (h : Text) → Lists (last δ h) (suc (length h)) (chain_r δ h)
@@ -280,7 +280,7 @@ lists_once at b (x ∷ c) L =
 
 -- a list is as good of what agrees below its bound, and, where nothing stands above it, of any bound
 lists_agree : (at to : ℕ → Option ℕ) (b d : ℕ) (c : Chain) → ((n : ℕ) → n < b → at n ≡ to n)
-    → ((n q : ℕ) → to n ≡ some q → n < b) → b ≤ d → Lists at b c → Lists to d c
+    → ((n q : ℕ) → to n ≡ Some q → n < b) → b ≤ d → Lists at b c → Lists to d c
 lists_agree at to b d c same none_above l L =
     record {
       nonzero = L.nonzero;
@@ -350,7 +350,7 @@ module _ (δ : Delta) where
 
   -- where a live state after one more event can come from
   abbrev pub Fed : Text → ℕ → ℕ → Type 0
-  Fed t a q = (δ 0 a ≡ some q) ⊎ ((p : ℕ) × Alive δ t p × (δ p a ≡ some q))
+  Fed t a q = (δ 0 a ≡ Some q) ⊎ ((p : ℕ) × Alive δ t p × (δ p a ≡ Some q))
 
   -- the live states after one more event: those that the event leads to from state 0 and from the live ones
   pub alive_snoc : (t : Text) (a q : ℕ) → Alive δ (t ++ (a ∷ [])) q ↔ ((q ≢ 0) × Fed t a q)
@@ -359,10 +359,10 @@ module _ (δ : Delta) where
       back : reverse (t ++ (a ∷ [])) ≡ a ∷ reverse t
       back = reverse-append t (a ∷ [])
 
-      at : (n : ℕ) → Leads δ (t ++ (a ∷ [])) q n → last δ (a ∷ reverse t) n ≡ some q
+      at : (n : ℕ) → Leads δ (t ++ (a ∷ [])) q n → last δ (a ∷ reverse t) n ≡ Some q
       at n l = rw back at (leads_last δ (t ++ (a ∷ [])) q n l)
 
-      go : (n : ℕ) → q ≢ 0 → last δ (a ∷ reverse t) n ≡ some q → Fed t a q
+      go : (n : ℕ) → q ≢ 0 → last δ (a ∷ reverse t) n ≡ Some q → Fed t a q
       go zero nz e = let z : q ≡ 0 = cc in absurd (nz z)
       go (suc n) nz e =
           let i = then_some δ (reverse t) a n q e in
@@ -380,7 +380,7 @@ module _ (δ : Delta) where
           (nz, (suc m, last_leads δ (t ++ (a ∷ [])) q (suc m) (rw back e)))
 
   -- FORGETTING: where no word that leads anywhere is longer than m, the chain is that of the last m events or more
-  pub forget : (m : ℕ) → ((w : Text) (q : ℕ) → read δ 0 w ≡ some q → length w ≤ m) → (s w : Text) → m ≤ length w
+  pub forget : (m : ℕ) → ((w : Text) (q : ℕ) → read δ 0 w ≡ Some q → length w ≤ m) → (s w : Text) → m ≤ length w
       → chain δ (s ++ w) ≡ chain δ w
   forget m short s w l =
       let h = reverse w in

@@ -4,7 +4,7 @@
 -- nothing.
 use mathlib.Core.Path.{◌≡◌, refl, sym, ap, ◌∙◌, subst}
 use mathlib.Core.Logic.{⊎_elim}
-use mathlib.Core.Option.{Option, none, some}
+use Rattle.std.specs.Prelude.{Option, None, Some}
 use mathlib.Core.List.{List, [], ◌∷◌, ◌++◌, map}
 use mathlib.Core.List.{Memᴰ}
 use Prim.Native.Nat.{ℕ, zero, suc, ◌+◌, ◌≤◌, ◌<◌}
@@ -23,20 +23,20 @@ use Rattle.meaning.proofs.Book.{Names, Only}
 
 -- an event of the list is found at a number at which it stands
 pub find_mem : (es : List ℕ) (j a : ℕ) → Memᴰ a es
-    → (i : ℕ) × (i < length es) × (get_or es i 0 ≡ a) × (index_from j es a ≡ some (j + i))
+    → (i : ℕ) × (i < length es) × (get_or es i 0 ≡ a) × (index_from j es a ≡ Some (j + i))
 find_mem [] j a m = absurd (mathlib.Core.List.Memᴰ.not-nil m)
 find_mem (b ∷ es) j a m =
     by_bool (eqb b a)
-    (λ e. let z : j ≡ j + 0 = omega arith in (0, omega arith, eqb-true b a e, rw e (ap {B = Option ℕ} some z)))
+    (λ e. let z : j ≡ j + 0 = omega arith in (0, omega arith, eqb-true b a e, rw e (ap {B = Option ℕ} Some z)))
     (λ e.
     let later : Memᴰ a es =
     ⊎_elim (λ f. absurd (eqb-false b a e (sym f))) (λ k. k) (mathlib.Core.List.Memᴰ.cases_cons m) in
     let i = find_mem es (suc j) a later in
     let l = i.1 in
     let z : suc j + i.0 ≡ j + suc i.0 = omega arith in
-    (suc i.0, omega arith, i.2, rw e (i.3 ∙ ap {B = Option ℕ} some z)))
+    (suc i.0, omega arith, i.2, rw e (i.3 ∙ ap {B = Option ℕ} Some z)))
 
-pub find_none : (es : List ℕ) (j a : ℕ) → (Memᴰ a es → ⊥) → index_from j es a ≡ none
+pub find_none : (es : List ℕ) (j a : ℕ) → (Memᴰ a es → ⊥) → index_from j es a ≡ None
 find_none [] j a n = refl
 find_none (b ∷ es) j a n =
     by_bool (eqb b a) (λ e. absurd (n (mathlib.Core.List.Memᴰ.head (sym (eqb-true b a e)))))
@@ -106,27 +106,27 @@ module _ (δ : Delta) (out : ℕ → List ℕ) (mark : Marks) (L : List Chain) w
 
   -- an event of the head's edges leads where the book leads
   pub edge-mem : (p a : ℕ) → p < length L → Memᴰ a (events_at δ out mark L p)
-      → edge_of (image_of δ out mark L) p a ≡ some (number L (step δ (get_or L p []) a))
+      → edge_of (image_of δ out mark L) p a ≡ Some (number L (step δ (get_or L p []) a))
   edge-mem p a l m =
       let i = find_mem (here p) (first p) a m in
-      ap (λ (o : Option ℕ). then o (λ j. some (get_or (table (length L)) j 0))) i.3
-      ∙ ap {B = Option ℕ} some (target_at (length L) p i.0 l i.1 ∙ ap (λ (b : ℕ). to p b) i.2)
+      ap (λ (o : Option ℕ). then o (λ j. Some (get_or (table (length L)) j 0))) i.3
+      ∙ ap {B = Option ℕ} Some (target_at (length L) p i.0 l i.1 ∙ ap (λ (b : ℕ). to p b) i.2)
 
-  pub edge_not : (p a : ℕ) → (Memᴰ a (events_at δ out mark L p) → ⊥) → edge_of (image_of δ out mark L) p a ≡ none
+  pub edge_not : (p a : ℕ) → (Memᴰ a (events_at δ out mark L p) → ⊥) → edge_of (image_of δ out mark L) p a ≡ None
   edge_not p a n =
-      ap (λ (o : Option ℕ). then o (λ j. some (get_or (table (length L)) j 0))) (find_none (here p) (first p) a n)
+      ap (λ (o : Option ℕ). then o (λ j. Some (get_or (table (length L)) j 0))) (find_none (here p) (first p) a n)
 
   module _ (names : Names δ out) (only : Only δ out) where
-    pub edge_some : (p a q : ℕ) → p < length L → δ (head (get_or L p [])) a ≡ some q
-        → edge_of (image_of δ out mark L) p a ≡ some (number L (step δ (get_or L p []) a))
+    pub edge_some : (p a q : ℕ) → p < length L → δ (head (get_or L p [])) a ≡ Some q
+        → edge_of (image_of δ out mark L) p a ≡ Some (number L (step δ (get_or L p []) a))
     edge_some p a q l e = edge-mem p a l (names (head (get_or L p [])) a q e)
 
-    pub edge_none : (p a : ℕ) → δ (head (get_or L p [])) a ≡ none → edge_of (image_of δ out mark L) p a ≡ none
+    pub edge_none : (p a : ℕ) → δ (head (get_or L p [])) a ≡ None → edge_of (image_of δ out mark L) p a ≡ None
     edge_none p a e = edge_not p a (λ m. none_some e (only (head (get_or L p [])) a m).1)
 
     pub edge_is : (p a : ℕ) → p < length L
         → edge_of (image_of δ out mark L) p a
-        ≡ then (δ (head (get_or L p [])) a) (λ q. some (number L (step δ (get_or L p []) a)))
+        ≡ then (δ (head (get_or L p [])) a) (λ q. Some (number L (step δ (get_or L p []) a)))
     edge_is p a l =
         by_option (δ (head (get_or L p [])) a) (λ e. edge_none p a e ∙ sym (rw e))
         (λ q e. edge_some p a q l e ∙ sym (rw e))

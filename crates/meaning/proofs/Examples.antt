@@ -2,7 +2,7 @@
 -- one). From the definitions alone, by no theorem. book_deep is the least book that tells document 000's rule from
 -- Mohri's: a state found deep in the rest is dropped; book_over has overlapping signatures. Assumes nothing.
 use mathlib.Core.Path.{◌≡◌, refl}
-use mathlib.Core.Option.{Option, none, some}
+use Rattle.std.specs.Prelude.{Option, None, Some}
 use mathlib.Core.List.{List, [], ◌∷◌}
 use Prim.Native.Nat.{ℕ}
 use lib.ListN.{length}
@@ -15,8 +15,8 @@ use Rattle.meaning.specs.Records.{Record, recorded, records_within, records_at, 
 
 -- no places where there are over 1,024
 abbrev got : Option (List Chain) → List Chain
-got none = []
-got (some L) = L
+got None = []
+got (Some L) = L
 
 abbrev places_of : Book → List Chain
 places_of B = got (places (delta B) (outs B) 1024)

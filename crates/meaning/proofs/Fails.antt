@@ -2,7 +2,7 @@
 -- levels keep them in check: fails_step, fails_level, fails_bound, fails_fewer, level_text. Stacked: each reach is
 -- above the next one's, the last above 0, as in every text's chain (chain_stacked). Assumes nothing.
 use mathlib.Core.Path.{◌≡◌, refl}
-use mathlib.Core.Option.{Option, none, some}
+use Rattle.std.specs.Prelude.{Option, None, Some}
 use mathlib.Core.List.{[], ◌∷◌}
 use Prim.Native.Nat.{ℕ, suc, ◌+◌, ◌≤◌, ◌<◌}
 use native.Mathlib.Omega.{arith}
@@ -17,12 +17,12 @@ Stacked (x ∷ c) = (level c < x.reach) × Stacked c
 
 -- one more where there is no edge, else none at all
 abbrev pub miss : Option ℕ → ℕ → ℕ
-miss none n = suc n
-miss (some q) n = 0
+miss None n = suc n
+miss (Some q) n = 0
 
 abbrev pub stop : Option ℕ → Chain → Chain → Chain
-stop none c d = d
-stop (some q) c d = c
+stop None c d = d
+stop (Some q) c d = c
 
 module _ (δ : Delta) where
   -- how often the walk goes to the fallback before a head has an edge, or it stands at the empty chain
@@ -36,7 +36,7 @@ module _ (δ : Delta) where
   stands_at (x ∷ c) a = stop (δ x.state a) (x ∷ c) (stands_at c a)
 
   -- with no edge at the head, the step is the fallback's
-  pub step-miss : (x : Live) (c : Chain) (a : ℕ) → δ x.state a ≡ none → step δ (x ∷ c) a ≡ step δ c a
+  pub step-miss : (x : Live) (c : Chain) (a : ℕ) → δ x.state a ≡ None → step δ (x ∷ c) a ≡ step δ c a
   step-miss x c a e = rw e
 
   -- from where the walk stands, the step leads where it leads from the start
@@ -45,16 +45,16 @@ module _ (δ : Delta) where
   step_stands (x ∷ c) a =
       by_option (δ x.state a) (λ e. let i = step_stands c a in rw e i) (λ p e. rw e (step_some p e))
     where
-      step_some : (p : ℕ) → δ x.state a ≡ some p → step δ (x ∷ c) a ≡ put (some p) (suc x.reach) (step δ c a)
+      step_some : (p : ℕ) → δ x.state a ≡ Some p → step δ (x ∷ c) a ≡ put (Some p) (suc x.reach) (step δ c a)
       step_some p e = rw e
 
   level-put : (o : Option ℕ) (r : ℕ) (d : Chain) → level d ≤ r → level (put o r d) ≤ r
-  level-put none r d l = l
-  level-put (some p) r d l = by_bool (has p d) (λ e. rw e l) (λ e. rw e (omega arith))
+  level-put None r d l = l
+  level-put (Some p) r d l = by_bool (has p d) (λ e. rw e l) (λ e. rw e (omega arith))
 
   stacked_put : (o : Option ℕ) (r : ℕ) (d : Chain) → level d < r → Stacked d → Stacked (put o r d)
-  stacked_put none r d l s = s
-  stacked_put (some p) r d l s = by_bool (has p d) (λ e. rw e s) (λ e. rw e (l, s))
+  stacked_put None r d l s = s
+  stacked_put (Some p) r d l s = by_bool (has p d) (λ e. rw e s) (λ e. rw e (l, s))
 
   -- an event raises the level by at most one
   pub level-step : (c : Chain) (a : ℕ) → Stacked c → level (step δ c a) ≤ suc (level c)

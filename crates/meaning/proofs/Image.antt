@@ -5,7 +5,7 @@
 -- bare-same: head, level and fallback decide a chain; by states alone head and fallback do. Assumes nothing.
 use mathlib.Core.Path.{◌≡◌, refl, sym, ap, ◌∙◌, subst}
 use mathlib.Core.Logic.{◌≢◌, ◌↔◌}
-use mathlib.Core.Option.{some}
+use Rattle.std.specs.Prelude.{Some}
 use mathlib.Core.List.{List, [], ◌∷◌}
 use Prim.Native.Nat.{ℕ, ◌<◌}
 use native.Mathlib.Omega.{arith}
@@ -59,7 +59,7 @@ module _ (δ : Delta) (out : ℕ → List ℕ) (mark : Marks) (L : List Chain) (
         edges = λ p a l.
             let c = get_or L p [] in
             edge_is δ out mark L names only p a l
-            ∙ ap (λ (n : ℕ). then (δ (head c) a) (λ q. some n)) (sym (number-whole L (step δ c a)));
+            ∙ ap (λ (n : ℕ). then (δ (head c) a) (λ q. Some n)) (sym (number-whole L (step δ c a)));
       }
 
   module _ (N : Numbers δ L) where
@@ -87,7 +87,7 @@ module _ (δ : Delta) (out : ℕ → List ℕ) (mark : Marks) (L : List Chain) (
         shows_named whole δ (whole-rule δ) L O mark (image_of δ out mark L) image_shows heads (λ q k. refl)
         (get_or L p []) p p (omega arith) l refl
 
-    pub image_away : Away δ → (p a q : ℕ) → p < length L → edge_of (image_of δ out mark L) p a ≡ some q → q ≢ 0
+    pub image_away : Away δ → (p a q : ℕ) → p < length L → edge_of (image_of δ out mark L) p a ≡ Some q → q ≢ 0
     image_away = target_away whole δ (whole-rule δ) L W mark (image_of δ out mark L) image_shows
 
     -- one event: the walk follows the chain, and its failure steps are the chain's

@@ -5,7 +5,7 @@
 -- goes on. image_run_moves: room that moves on. Assumes nothing.
 use mathlib.Core.Path.{◌≡◌, refl, sym, ap, ◌∙◌, subst, subst₂}
 use mathlib.Core.Logic.{◌≢◌, ⊎_elim, ◌↔◌}
-use mathlib.Core.Option.{none}
+use Rattle.std.specs.Prelude.{None}
 use mathlib.Core.List.Memᴰ
 use mathlib.Core.List.{List, [], ◌∷◌, ◌++◌, append_assoc, append-nil, Memᴰ}
 use Prim.Native.Nat.{ℕ, zero, suc, ◌+◌, ◌≤◌, ◌<◌}
@@ -95,7 +95,7 @@ module _ (δ : Delta) (mark : Marks) where
           (fro (suc e) (s ++ (a ∷ [])) log (suc n) (omega arith) (omega arith) q)
 
 -- a book without edges gives no record
-pub report_nothing : (δ : Delta) (mark : Marks) → ((a : ℕ) → δ 0 a ≡ none) → (e : ℕ) (s log : List ℕ)
+pub report_nothing : (δ : Delta) (mark : Marks) → ((a : ℕ) → δ 0 a ≡ None) → (e : ℕ) (s log : List ℕ)
     → report δ mark e s log ≡ []
 report_nothing δ mark no_edge e s [] = refl
 report_nothing δ mark no_edge e s (a ∷ log) =
@@ -236,7 +236,7 @@ module _ (δ : Delta) (out : ℕ → List ℕ) (mark : Marks) (L : List Chain) (
         let I = image_of δ out mark L in
         run_records I room e 0 log ∙ ap (λ (p : ℕ). listing I e p taken) (sym place_of_nil) ∙ image_listing e [] taken
 
-    pub image_run_nothing : ((a : ℕ) → δ 0 a ≡ none) → ran.records ≡ []
+    pub image_run_nothing : ((a : ℕ) → δ 0 a ≡ None) → ran.records ≡ []
     image_run_nothing no_edge = image_run_records ∙ report_nothing δ mark no_edge e [] taken
 
     -- right of the events up to some byte taken

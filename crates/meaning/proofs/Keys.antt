@@ -5,7 +5,7 @@
 use mathlib.Core.Path.{◌≡◌, refl, sym, ap, ◌∙◌, subst}
 use mathlib.Core.Logic.{◌⊎◌, inl, inr, ⊎_elim, ◌↔◌}
 use mathlib.Core.Bool.{Bool, true, false, ◌&&◌, ◌||◌}
-use mathlib.Core.Option.{Option, none, some}
+use Rattle.std.specs.Prelude.{Option, None, Some}
 use mathlib.Core.List.{List, [], ◌∷◌, ◌++◌}
 use Prim.Native.Nat.{ℕ, zero, suc, ◌≤◌, ◌<◌}
 use native.Mathlib.Omega.{arith}
@@ -54,9 +54,9 @@ module _ (key : Key) where
   opened_by δ out p L = meet_all_by δ (get_or L p []) (out (head (get_or L p []))) L
 
   abbrev pub grow_by : Delta → (ℕ → List ℕ) → ℕ → Bool → ℕ → List Chain → Option (List Chain)
-  grow_by δ out zero false p L = some L
-  grow_by δ out zero true p L = none
-  grow_by δ out (suc f) false p L = some L
+  grow_by δ out zero false p L = Some L
+  grow_by δ out zero true p L = None
+  grow_by δ out (suc f) false p L = Some L
   grow_by δ out (suc f) true p L = let M = opened_by δ out p L in grow_by δ out f (ltb (suc p) (length M)) (suc p) M
 
   -- for each place the first chain met that stands for it

@@ -21,3 +21,4 @@ pub mod Run
 pub mod Alike
 pub mod ImageRun
 pub mod Loops
+pub mod Refused

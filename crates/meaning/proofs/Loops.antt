@@ -2,7 +2,7 @@
 -- places); order_count: chains are lists and no sets, (1, 2) and (2, 1) are two places; retries: a loop; settled: a
 -- place stands on its fallback's own chain. Assumes nothing.
 use mathlib.Core.Path.{◌≡◌, refl}
-use mathlib.Core.Option.{Option, none, some}
+use Rattle.std.specs.Prelude.{Option, None, Some}
 use mathlib.Core.List.{List, [], ◌∷◌}
 use lib.ListN.{length}
 use Rattle.meaning.specs.Chain.{live, Chain, chain}
@@ -13,8 +13,8 @@ use Rattle.meaning.proofs.Keys.{places_by}
 use Rattle.meaning.proofs.Rules.{bare}
 
 abbrev got : Option (List Chain) → List Chain
-got none = []
-got (some L) = L
+got None = []
+got (Some L) = L
 
 abbrev bare_places : Book → List Chain
 bare_places B = got (places_by bare (delta B) (outs B) 1024)
@@ -36,7 +36,7 @@ abbrev book_retries : Book
 book_retries = state 0 (edge 0x31 1 ∷ []) ∷ state 0 (edge 0x21 1 ∷ edge 0x41 2 ∷ []) ∷ state 3 [] ∷ []
 
 retries : (bare_places book_retries ≡ [] ∷ (live 1 1 ∷ []) ∷ (live 2 2 ∷ []) ∷ [])
-    × (places (delta book_retries) (outs book_retries) 20 ≡ none)
+    × (places (delta book_retries) (outs book_retries) 20 ≡ None)
 retries = (refl, refl)
 
 -- after 11 21 22 the chain is (3, reach 3), (2, reach 2), and the place of 2 has level 1

@@ -5,7 +5,7 @@
 use mathlib.Core.Path.{◌≡◌, refl, sym, ap, ◌∙◌, subst}
 use mathlib.Core.Logic.{⊎_elim, ◌↔◌}
 use mathlib.Core.Bool.{Bool, true, false}
-use mathlib.Core.Option.{none, some}
+use Rattle.std.specs.Prelude.{None, Some}
 use mathlib.Core.List.Memᴰ
 use mathlib.Core.List.{List, [], ◌∷◌, ◌++◌, reverse, Memᴰ}
 use Prim.Native.Nat.{ℕ, zero, suc, ◌+◌, ◌≤◌, ◌<◌}
@@ -53,7 +53,7 @@ Flat L n = (i : ℕ) → i < length L → level (get_or L i []) ≤ n
 -- each place below p has all its edges' targets in L
 abbrev pub Closed : Key → Delta → ℕ → List Chain → Type 0
 Closed key δ p L =
-    (i : ℕ) → i < p → (a q : ℕ) → δ (head (get_or L i [])) a ≡ some q → HasBy key (step δ (get_or L i []) a) L
+    (i : ℕ) → i < p → (a q : ℕ) → δ (head (get_or L i [])) a ≡ Some q → HasBy key (step δ (get_or L i []) a) L
 
 -- and none of them more than one level up
 abbrev pub Near : Key → Delta → ℕ → List Chain → Type 0
@@ -152,7 +152,7 @@ module _ (key : Key) (δ : Delta) (R : Rule key δ) where
   pub closed_extends : (L M : List Chain) (p : ℕ) → Closed key δ p L → p ≤ length L → Extends L M → Closed key δ p M
   closed_extends L M p C l E i h a q e =
       let k : get_or M i [] ≡ get_or L i [] = E.kept i (omega arith) in
-      let m = C i h a q (subst (λ (z : Chain). δ (head z) a ≡ some q) k e) in
+      let m = C i h a q (subst (λ (z : Chain). δ (head z) a ≡ Some q) k e) in
       subst (λ (z : Chain). HasBy key (step δ z a) M) (sym k) (still key E (step δ (get_or L i []) a) m)
 
   pub near_extends : (L M : List Chain) (p : ℕ) → Good key δ L → Good key δ M → Closed key δ p L → p ≤ length L
@@ -336,7 +336,7 @@ module _ (key : Key) (δ : Delta) (R : Rule key δ) (out : ℕ → List ℕ) (na
         closed = λ i h a q e.
             by_order i p (λ k. P.closed i k a q e)
             (λ k.
-            let m = n.2 a (names (head c) a q (subst (λ (z : Chain). δ (head z) a ≡ some q) (at i k) e)) in
+            let m = n.2 a (names (head c) a q (subst (λ (z : Chain). δ (head z) a ≡ Some q) (at i k) e)) in
             subst (λ (z : Chain). HasBy key (step δ z a) M) (sym (at i k)) m)
             (λ k. absurd (let w : ⊥ = omega arith in w));
         near = λ i a j h b e.
@@ -362,7 +362,7 @@ module _ (key : Key) (δ : Delta) (R : Rule key δ) (out : ℕ → List ℕ) (na
       (subst (λ (n : ℕ). Loop key δ n L) h I, omega arith)
 
   grow_good : (f : ℕ) (t : Bool) (p : ℕ) (L : List Chain) → Loop key δ p L → ltb p (length L) ≡ t → (M : List Chain)
-      → grow_by key δ out f t p L ≡ some M → Loop key δ (length M) M × (length M ≤ p + f)
+      → grow_by key δ out f t p L ≡ Some M → Loop key δ (length M) M × (length M ≤ p + f)
   grow_good zero false p L I e M g = loop_end 0 p L M I e (cc)
   grow_good zero true p L I e M g = none_some refl g
   grow_good (suc f) false p L I e M g = loop_end (suc f) p L M I e (cc)
@@ -374,7 +374,7 @@ module _ (key : Key) (δ : Delta) (R : Rule key δ) (out : ℕ → List ℕ) (na
       (n.0, omega arith)
 
   grow_over : (f : ℕ) (t : Bool) (p : ℕ) (L : List Chain) → Loop key δ p L → ltb p (length L) ≡ t
-      → grow_by key δ out f t p L ≡ none → (M : List Chain) × Good key δ M × (p + f < length M)
+      → grow_by key δ out f t p L ≡ None → (M : List Chain) × Good key δ M × (p + f < length M)
   grow_over zero false p L I e g = none_some g refl
   grow_over zero true p L I e g = let l = ltb-true p (length L) e in (L, I.good, omega arith)
   grow_over (suc f) false p L I e g = none_some g refl
@@ -454,7 +454,7 @@ MoreThanBy key δ N =
     × ((i : ℕ) → i < length M → (t : Text) × (key (chain δ t) ≡ key (get_or M i [])))
 
 module _ (key : Key) (δ : Delta) (R : Rule key δ) (out : ℕ → List ℕ) (names : Names δ out) where
-  pub numbering : (N : ℕ) (L : List Chain) → places_by key δ out N ≡ some L
+  pub numbering : (N : ℕ) (L : List Chain) → places_by key δ out N ≡ Some L
       → NumbersBy key δ L × Levelled L × (length L ≤ N)
   numbering N L e =
       let g = grow_good key δ R out names N true 0 ([] ∷ []) (loop_start key δ) refl L e in
@@ -477,10 +477,10 @@ module _ (key : Key) (δ : Delta) (R : Rule key δ) (out : ℕ → List ℕ) (na
       )
 
   -- refused exactly where there are more than N
-  pub numbering_over : (N : ℕ) → (places_by key δ out N ≡ none) ↔ MoreThanBy key δ N
+  pub numbering_over : (N : ℕ) → (places_by key δ out N ≡ None) ↔ MoreThanBy key δ N
   numbering_over N = (over, under_it)
     where
-      over : places_by key δ out N ≡ none → MoreThanBy key δ N
+      over : places_by key δ out N ≡ None → MoreThanBy key δ N
       over e =
           let g = grow_over key δ R out names N true 0 ([] ∷ []) (loop_start key δ) refl e in
           let k = g.2 in
@@ -493,7 +493,7 @@ module _ (key : Key) (δ : Delta) (R : Rule key δ) (out : ℕ → List ℕ) (na
           let r = m.3 i.0 i.1 in
           has_cast key (chain δ r.0) x L (r.1 ∙ i.2) (P.all r.0)
 
-      under_it : MoreThanBy key δ N → places_by key δ out N ≡ none
+      under_it : MoreThanBy key δ N → places_by key δ out N ≡ None
       under_it m =
           by_option (places_by key δ out N) (λ e. e)
           (λ L e.

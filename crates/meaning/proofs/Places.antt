@@ -6,7 +6,7 @@
 use mathlib.Core.Path.{◌≡◌, refl, sym, ap, ◌∙◌, subst}
 use mathlib.Core.Logic.{inl, inr, ⊎_elim, ◌↔◌}
 use mathlib.Core.Bool.{Bool, true, false, ◌||◌}
-use mathlib.Core.Option.{none, some}
+use Rattle.std.specs.Prelude.{None, Some}
 use mathlib.Core.List.{List, [], ◌∷◌, ◌++◌, Memᴰ}
 use Prim.Native.Nat.{ℕ, zero, suc, ◌≤◌, ◌<◌}
 use native.Mathlib.Omega.{arith}
@@ -199,22 +199,22 @@ module _ (δ : Delta) (out : ℕ → List ℕ) (names : Names δ out) where
   pub places-whole : (N : ℕ) → places δ out N ≡ places_by whole δ out N
   places-whole N = grow-whole N true 0 ([] ∷ []) (loop_start whole δ) refl
 
-  numbered : (N : ℕ) (L : List Chain) → places δ out N ≡ some L → NumbersBy whole δ L × Levelled L × (length L ≤ N)
+  numbered : (N : ℕ) (L : List Chain) → places δ out N ≡ Some L → NumbersBy whole δ L × Levelled L × (length L ≤ N)
   numbered N L e = numbering whole δ (whole-rule δ) out names N L (sym (places-whole N) ∙ e)
 
   -- THE PLACES
-  pub places-number : (N : ℕ) (L : List Chain) → places δ out N ≡ some L → Numbers δ L × (length L ≤ N)
+  pub places-number : (N : ℕ) (L : List Chain) → places δ out N ≡ Some L → Numbers δ L × (length L ≤ N)
   places-number N L e = let g = numbered N L e in (numbers_of_whole δ L g.0, g.2)
 
-  pub places_sorted : (N : ℕ) (L : List Chain) → places δ out N ≡ some L → (i j : ℕ) → i ≤ j → j < length L
+  pub places_sorted : (N : ℕ) (L : List Chain) → places δ out N ≡ Some L → (i j : ℕ) → i ≤ j → j < length L
       → level (get_or L i []) ≤ level (get_or L j [])
   places_sorted N L e = (numbered N L e).1.sorted
 
-  pub places_low : (N : ℕ) (L : List Chain) → places δ out N ≡ some L → (i : ℕ) → i < length L → level (get_or L i []) ≤ i
+  pub places_low : (N : ℕ) (L : List Chain) → places δ out N ≡ Some L → (i : ℕ) → i < length L → level (get_or L i []) ≤ i
   places_low N L e = (numbered N L e).1.low
 
   -- refused exactly where there are more than N
-  pub places_over : (N : ℕ) → (places δ out N ≡ none) ↔ MoreThan δ N
+  pub places_over : (N : ℕ) → (places δ out N ≡ None) ↔ MoreThan δ N
   places_over N =
       let o = numbering_over whole δ (whole-rule δ) out names N in (
         (λ e. plain (o.0 (sym (places-whole N) ∙ e))),
@@ -238,9 +238,9 @@ module _ (δ : Delta) (out : ℕ → List ℕ) (names : Names δ out) where
       )
 
   -- BOOKS WITH LOOPS: states alone
-  pub bare-number : (N : ℕ) (L : List Chain) → places_by bare δ out N ≡ some L
+  pub bare-number : (N : ℕ) (L : List Chain) → places_by bare δ out N ≡ Some L
       → NumbersBy bare δ L × Levelled L × (length L ≤ N)
   bare-number = numbering bare δ (bare-rule δ) out names
 
-  pub bare_over : (N : ℕ) → (places_by bare δ out N ≡ none) ↔ MoreThanBy bare δ N
+  pub bare_over : (N : ℕ) → (places_by bare δ out N ≡ None) ↔ MoreThanBy bare δ N
   bare_over = numbering_over bare δ (bare-rule δ) out names

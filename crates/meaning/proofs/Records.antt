@@ -6,7 +6,7 @@
 use mathlib.Core.Path.{◌≡◌, refl, sym, ap, ◌∙◌, subst}
 use mathlib.Core.Logic.{◌≢◌, ⊎_elim, ◌↔◌}
 use mathlib.Core.Bool.{Bool}
-use mathlib.Core.Option.{none, some}
+use Rattle.std.specs.Prelude.{None, Some}
 use mathlib.Core.List.Memᴰ
 use mathlib.Core.List.{List, [], ◌∷◌, ◌++◌, map}
 use mathlib.Core.List.{Memᴰ}
@@ -249,7 +249,7 @@ module _ (δ : Delta) (mark : Marks) (e : ℕ) where
           Memᴰ.cast (λ i. record { end = r.at_end i; length = r.its_length i; mark = sym r.its_mark i }) m
 
   -- a word that leads to a marked state, as an ending of the text, is recorded with its mark
-  pub no_miss : (s w : Text) (q : ℕ) → read δ 0 w ≡ some q → q ≢ 0 → mark q ≢ 0
+  pub no_miss : (s w : Text) (q : ℕ) → read δ 0 w ≡ Some q → q ≢ 0 → mark q ≢ 0
       → (n : ℕ) × (n ≤ length w) × Memᴰ (recorded e (shown n) (mark q)) (hits mark e (chain δ (s ++ w)))
   no_miss s w q f nz mz =
       let l : Leads δ (s ++ w) q (length w) = (s, w, refl, refl, f) in
@@ -344,7 +344,7 @@ module _ (δ : Delta) (out : ℕ → List ℕ) (mark : Marks) (L : List Chain) (
       subst (λ (rs : List Record). (rs ≢ []) ↔ Ends δ mark t) (sym (image_text_records t)) (ends_iff δ mark e z t)
 
 -- a book without edges: nothing is alive after any text
-pub nothing_chain : (δ : Delta) → ((a : ℕ) → δ 0 a ≡ none) → (t : Text) → chain δ t ≡ []
+pub nothing_chain : (δ : Delta) → ((a : ℕ) → δ 0 a ≡ None) → (t : Text) → chain δ t ≡ []
 nothing_chain δ no_edge [] = refl
 nothing_chain δ no_edge (a ∷ t) =
     let e : step δ [] a ≡ [] = rw (no_edge a) in

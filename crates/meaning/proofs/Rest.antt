@@ -4,7 +4,7 @@
 -- step_away: where no edge leads to state 0, an edge at the head leads to a chain that is not empty. Assumes nothing.
 use mathlib.Core.Path.{◌≡◌, refl, sym, ap, ◌∙◌, subst}
 use mathlib.Core.Logic.{◌≢◌, ◌⊎◌, inl, inr, ⊎_elim}
-use mathlib.Core.Option.{Option, none, some}
+use Rattle.std.specs.Prelude.{Option, None, Some}
 use mathlib.Core.List.Memᴰ
 use mathlib.Core.List.{[], ◌∷◌, reverse, reverse-reverse, Memᴰ}
 use Prim.Native.Nat.{ℕ, zero, suc, ◌≤◌, ◌<◌}
@@ -21,7 +21,7 @@ Proper d (x ∷ c) = (d ≡ c) ⊎ Proper d c
 
 -- no edge leads to state 0
 abbrev pub Away : Delta → Type 0
-Away δ = (q a p : ℕ) → δ q a ≡ some p → p ≢ 0
+Away δ = (q a p : ℕ) → δ q a ≡ Some p → p ≢ 0
 
 module _ (δ : Delta) where
   -- d is empty, or is what the event makes of something that followed in c
@@ -42,8 +42,8 @@ module _ (δ : Delta) where
 
       by : (Proper d (step δ c a) → Made c a d) → (o : Option ℕ) → Proper d (put o (suc x.reach) (step δ c a))
           → Made (x ∷ c) a d
-      by ih none p = up (ih p)
-      by ih (some q) p =
+      by ih None p = up (ih p)
+      by ih (Some q) p =
           by_bool (has q (step δ c a)) (λ e. up (ih (rw e at p)))
           (λ e. ⊎_elim (λ f. inr (c, inl refl, f)) (λ f. up (ih f)) (rw e at p))
 
@@ -76,8 +76,8 @@ module _ (δ : Delta) where
   under (x ∷ c) a = step δ c a
 
   put_new : (o : Option ℕ) (r : ℕ) (d : Chain) → (put o r d ≡ d) ⊎ ((q : ℕ) × (put o r d ≡ live q r ∷ d))
-  put_new none r d = inl refl
-  put_new (some q) r d = by_bool (has q d) (λ e. inl (rw e)) (λ e. inr (q, rw e))
+  put_new None r d = inl refl
+  put_new (Some q) r d = by_bool (has q d) (λ e. inl (rw e)) (λ e. inr (q, rw e))
 
   pub step_new : (c : Chain) (a : ℕ)
       → (step δ c a ≡ under c a) ⊎ ((q : ℕ) × (step δ c a ≡ live q (suc (level c)) ∷ under c a))
@@ -121,10 +121,10 @@ module _ (δ : Delta) where
         turned i.0 ∙ i.2 ∙ sym e,
       )
 
-pub step_away : (δ : Delta) → Away δ → (c : Chain) (a q : ℕ) → δ (head c) a ≡ some q → step δ c a ≡ [] → ⊥
+pub step_away : (δ : Delta) → Away δ → (c : Chain) (a q : ℕ) → δ (head c) a ≡ Some q → step δ c a ≡ [] → ⊥
 step_away δ away c a q e z = go c e z
   where
-    put_some : (d : Chain) (r : ℕ) → put (some q) r d ≡ [] → q ≢ 0 → ⊥
+    put_some : (d : Chain) (r : ℕ) → put (Some q) r d ≡ [] → q ≢ 0 → ⊥
     put_some d r z nz =
         by_bool (has q d)
         (λ f.
@@ -136,6 +136,6 @@ step_away δ away c a q e z = go c e z
         let w : suc (length d) ≡ 0 = ap {B = ℕ} length y in
         omega arith)
 
-    go : (c : Chain) → δ (head c) a ≡ some q → step δ c a ≡ [] → ⊥
+    go : (c : Chain) → δ (head c) a ≡ Some q → step δ c a ≡ [] → ⊥
     go [] e z = put_some [] 1 (sym (rw e) ∙ z) (away 0 a q e)
     go (x ∷ c) e z = put_some (step δ c a) (suc x.reach) (sym (rw e) ∙ z) (away x.state a q e)

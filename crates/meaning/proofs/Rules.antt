@@ -5,7 +5,7 @@
 use mathlib.Core.Path.{◌≡◌, refl, sym, ap, ◌∙◌, subst, subst₂}
 use mathlib.Core.Logic.{◌≢◌, ◌↔◌}
 use mathlib.Core.Bool.{Bool, ◌||◌}
-use mathlib.Core.Option.{Option, none, some}
+use Rattle.std.specs.Prelude.{Option, None, Some}
 use mathlib.Core.List.{List, [], ◌∷◌, Memᴰ}
 use Prim.Native.Nat.{ℕ, suc, ◌≤◌, ◌<◌}
 use native.Mathlib.Omega.{arith}
@@ -68,8 +68,8 @@ module _ (f : ℕ → ℕ) where
 
   told-put : (o : Option ℕ) (r s : ℕ) (c d : Chain) → f r ≡ f s → told f c ≡ told f d
       → told f (put o r c) ≡ told f (put o s d)
-  told-put none r s c d g e = e
-  told-put (some q) r s c d g e =
+  told-put None r s c d g e = e
+  told-put (Some q) r s c d g e =
       by_bool (has q d) (λ h. rw (same-has q c d e, h) e)
       (λ h. rw (same-has q c d e, h) (λ i. record { state = q; reach = g i } ∷ e i))
 

@@ -5,7 +5,7 @@
 use mathlib.Core.Path.{◌≡◌, refl, sym, ap, ◌∙◌, subst}
 use mathlib.Core.Logic.{◌≢◌, ◌↔◌}
 use mathlib.Core.Bool.{false}
-use mathlib.Core.Option.{Option, some}
+use Rattle.std.specs.Prelude.{Option, Some}
 use mathlib.Core.List.{List, [], ◌∷◌, ◌++◌}
 use Prim.Native.Nat.{ℕ, zero, suc, ◌+◌, ◌≤◌, ◌<◌}
 use native.Mathlib.Omega.{arith}
@@ -32,7 +32,7 @@ pub record Shows (key : Key) (δ : Delta) (mark : Marks) (L : List Chain) (M : I
   pub levels : (p : ℕ) → p < length L → M.level p ≡ level (get_or L p [])
   pub marks : (p : ℕ) → p < length L → M.mark p ≡ mark (head (get_or L p []))
   pub edges : (p a : ℕ) → p < length L
-      → edge_of M p a ≡ then (δ (head (get_or L p [])) a) (λ q. some (number_by key L (step δ (get_or L p []) a)))
+      → edge_of M p a ≡ then (δ (head (get_or L p [])) a) (λ q. Some (number_by key L (step δ (get_or L p []) a)))
 
 pub reachable_step : (δ : Delta) (c : Chain) (a : ℕ) → Reachable δ c → Reachable δ (step δ c a)
 reachable_step δ c a r = (r.0 ++ (a ∷ []), chain_snoc δ r.0 a ∙ ap (λ (z : Chain). step δ z a) r.1)
@@ -45,7 +45,7 @@ image_by key δ mark L =
       fallback = λ p. number_by key L (rest (get_or L p []));
       level = λ p. level (get_or L p []);
       mark = λ p. mark (head (get_or L p []));
-      find = λ p a. then (δ (head (get_or L p [])) a) (λ q. some (number_by key L (step δ (get_or L p []) a)));
+      find = λ p a. then (δ (head (get_or L p [])) a) (λ q. Some (number_by key L (step δ (get_or L p []) a)));
       target = λ j. j;
     }
 
@@ -178,16 +178,16 @@ module _ (key : Key) (δ : Delta) (R : Rule key δ) (L : List Chain) (O : Ordere
 
     -- a place's edge, by its chain
     pub edge_by_at : (p a : ℕ) (c : Chain) → p < length L → key (get_or L p []) ≡ key c
-        → edge_of M p a ≡ then (δ (head c) a) (λ q. some (number_by key L (step δ c a)))
+        → edge_of M p a ≡ then (δ (head c) a) (λ q. Some (number_by key L (step δ c a)))
     edge_by_at p a c l e =
         S.edges p a l
-        ∙ ap (λ (h : ℕ). then (δ h a) (λ q. some (number_by key L (step δ (get_or L p []) a))))
+        ∙ ap (λ (h : ℕ). then (δ h a) (λ q. Some (number_by key L (step δ (get_or L p []) a))))
         (R.key_head (get_or L p []) c e)
-        ∙ ap (λ (n : ℕ). then (δ (head c) a) (λ q. some n))
+        ∙ ap (λ (n : ℕ). then (δ (head c) a) (λ q. Some n))
         (number_by_same key L (step δ (get_or L p []) a) (step δ c a) (R.key_step (get_or L p []) c a e))
 
     zero-edge : (a : ℕ)
-        → take-edge (then (δ 0 a) (λ q. some (number_by key L (step δ [] a)))) (stand 0 0)
+        → take-edge (then (δ 0 a) (λ q. Some (number_by key L (step δ [] a)))) (stand 0 0)
         ≡ stand (number_by key L (step δ [] a)) 0
     zero-edge a = by_option (δ 0 a) (λ e. rw e (ap (λ (n : ℕ). stand n 0) (sym number_by_zero))) (λ q e. rw e)
 
@@ -236,15 +236,15 @@ module _ (key : Key) (δ : Delta) (R : Rule key δ) (L : List Chain) (N : Number
       (shows_walk t [] ([], refl))
 
   -- where an edge leads: a place of the list, by its chain
-  pub target_place : (p a q : ℕ) → p < length L → edge_of M p a ≡ some q
-      → (r : ℕ) × (δ (head (get_or L p [])) a ≡ some r) × (q < length L)
+  pub target_place : (p a q : ℕ) → p < length L → edge_of M p a ≡ Some q
+      → (r : ℕ) × (δ (head (get_or L p [])) a ≡ Some r) × (q < length L)
       × (key (get_or L q []) ≡ key (step δ (get_or L p []) a))
   target_place p a q b e =
       let c = get_or L p [] in
       let f = sym (S.edges p a b) ∙ e in
       by_option (δ (head c) a) (λ g. none_some refl (sym (rw g) ∙ f))
       (λ r g.
-      let w : ◌≡◌ {A = Option ℕ} (some (number_by key L (step δ c a))) (some q) = sym (rw g) ∙ f in
+      let w : ◌≡◌ {A = Option ℕ} (Some (number_by key L (step δ c a))) (Some q) = sym (rw g) ∙ f in
       let h : number_by key L (step δ c a) ≡ q = cc in
       let u = N.only p b in
       let v : key (chain δ (u.0 ++ (a ∷ []))) ≡ key (step δ c a) =
@@ -292,7 +292,7 @@ module _ (key : Key) (δ : Delta) (R : Rule key δ) (L : List Chain) (N : Number
           omega arith
 
   -- where no edge leads to state 0, no target is place 0
-  pub target_away : Away δ → (p a q : ℕ) → p < length L → edge_of M p a ≡ some q → q ≢ 0
+  pub target_away : Away δ → (p a q : ℕ) → p < length L → edge_of M p a ≡ Some q → q ≢ 0
   target_away away p a q b e z =
       let t = target_place p a q b e in
       let c = get_or L p [] in

@@ -4,7 +4,7 @@
 -- walk_less, walk_fewer: with one event or more at most one step fewer. walk-append: in parts. Assumes nothing.
 use mathlib.Core.Path.{◌≡◌, refl, sym, ap, ◌∙◌, subst}
 use mathlib.Core.Logic.{◌≢◌}
-use mathlib.Core.Option.{Option, none, some}
+use Rattle.std.specs.Prelude.{Option, None, Some}
 use mathlib.Core.List.{[], ◌∷◌, ◌++◌}
 use Prim.Native.Nat.{ℕ, zero, suc, ◌+◌, ◌≤◌, ◌<◌}
 use native.Mathlib.Omega.{arith}
@@ -32,7 +32,7 @@ module _ (M : Image) where
       → next_within (suc f) M p a ≡ take-edge (edge_of M p a) (failing (next_within f M (M.fallback p) a))
   within-suc f p a nz = rw (ne_eqb p 0 nz)
 
-  within-edge : (f p a q : ℕ) → edge_of M p a ≡ some q → next_within f M p a ≡ stand q 0
+  within-edge : (f p a q : ℕ) → edge_of M p a ≡ Some q → next_within f M p a ≡ stand q 0
   within-edge zero p a q e = ap (λ (o : Option ℕ). take-edge o (stand 0 0)) e
   within-edge (suc f) p a q e =
       ap (λ (o : Option ℕ). take-edge o (when (eqb p 0) (stand 0 0) (failing (next_within f M (M.fallback p) a)))) e
@@ -48,7 +48,7 @@ module _ (M : Image) where
       let i = within-fuel low f g (M.fallback p) a (omega arith) (omega arith) (omega arith) in
       within-suc f p a nz ∙ ap (λ (s : Stand). take-edge (edge_of M p a) (failing s)) i ∙ sym (within-suc g p a nz))
 
-  pub next_edge : (p a q : ℕ) → edge_of M p a ≡ some q → next M p a ≡ stand q 0
+  pub next_edge : (p a q : ℕ) → edge_of M p a ≡ Some q → next M p a ≡ stand q 0
   unfolding next
   next_edge p a q e = within-edge p p a q e
 
@@ -56,7 +56,7 @@ module _ (M : Image) where
   unfolding next
   next-zero a = refl
 
-  pub next_stay : (a : ℕ) → edge_of M 0 a ≡ none → next M 0 a ≡ stand 0 0
+  pub next_stay : (a : ℕ) → edge_of M 0 a ≡ None → next M 0 a ≡ stand 0 0
   next_stay a e = next-zero a ∙ ap (λ (o : Option ℕ). take-edge o (stand 0 0)) e
 
   -- elsewhere: the edge, or the fallback's way with one failure step more
@@ -71,7 +71,7 @@ module _ (M : Image) where
       ∙ ap (λ (s : Stand). take-edge (edge_of M (suc n) a) (failing s))
       (within-fuel low n q q a (omega arith) (omega arith) (omega arith))
 
-  pub next_fail : Lower M → (p a : ℕ) → p < M.count → p ≢ 0 → edge_of M p a ≡ none
+  pub next_fail : Lower M → (p a : ℕ) → p < M.count → p ≢ 0 → edge_of M p a ≡ None
       → next M p a ≡ failing (next M (M.fallback p) a)
   next_fail low p a b nz e =
       next-step low p a b nz ∙ ap (λ (o : Option ℕ). take-edge o (failing (next M (M.fallback p) a))) e

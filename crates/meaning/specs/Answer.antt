@@ -9,7 +9,7 @@
 --   leaving x out bs    the lent memory afterwards: a refusal changes nothing, a success writes bs from the start on and leaves
 --                       what is past them
 use Rattle.std.specs.Prelude.{Bool, List, [], ◌∷◌, ℕ}
-use Rattle.std.proofs.Math.Option.{Option, none, some}
+use Rattle.std.specs.Prelude.{Option, None, Some}
 use Rattle.std.proofs.lemmas.List.Edits.{sets}
 use Rattle.meaning.specs.Choice.{when}
 
@@ -25,12 +25,12 @@ abbrev pub rule_at : ℕ → Option ℕ → Rule
 rule_at n o = record { number = n; fault = o }
 
 abbrev pub rule : ℕ → Bool → ℕ → Rule
-rule n b p = rule_at n (when b (some p) none)
+rule n b p = rule_at n (when b (Some p) None)
 
 -- the place of a fault, or what is judged next
 abbrev pub faulty : ℕ → Option ℕ → Answer → Answer
-faulty n none x = x
-faulty n (some p) x = refused n p
+faulty n None x = x
+faulty n (Some p) x = refused n p
 
 abbrev pub judged : List Rule → Answer → Answer
 judged [] x = x

@@ -3,7 +3,7 @@
 --   State, Book         a mark and edges; the states in their order
 --   delta, outs, marks  where an event leads from a state; the events of a state's edges; its mark
 use Rattle.std.specs.Prelude.{List, [], ◌∷◌, map, ℕ, get_or, eqb}
-use Rattle.std.proofs.Math.Option.{Option, none, some}
+use Rattle.std.specs.Prelude.{Option, None, Some}
 use Rattle.meaning.specs.Choice.{when}
 use Rattle.meaning.specs.Text.{Delta, Marks}
 
@@ -29,8 +29,8 @@ abbrev pub state_at : Book → ℕ → State
 state_at B q = get_or B q (state 0 [])
 
 abbrev pub look : List Edge → ℕ → Option ℕ
-look [] a = none
-look (e ∷ es) a = when (eqb e.event a) (some e.target) (look es a)
+look [] a = None
+look (e ∷ es) a = when (eqb e.event a) (Some e.target) (look es a)
 
 abbrev pub delta : Book → Delta
 delta B q a = look (state_at B q).edges a

@@ -8,7 +8,7 @@
 --   chain δ t           the chain of a text, event by event
 --   head, level, rest   the first state and its reach, both 0 for the empty chain; the chain without its head
 use Rattle.std.specs.Prelude.{Bool, ◌||◌, ℕ, suc, ◌<◌, eqb}
-use Rattle.std.proofs.Math.Option.{Option, none, some}
+use Rattle.std.specs.Prelude.{Option, None, Some}
 use mathlib.Core.List.{List, [], ◌∷◌, Memᴰ}
 use Rattle.meaning.specs.Choice.{when}
 use Rattle.meaning.specs.Text.{Text, Delta, Alive, Reach}
@@ -52,8 +52,8 @@ has q (x ∷ c) = eqb x.state q || has q c
 
 -- a state found anywhere in the rest is dropped
 abbrev pub put : Option ℕ → ℕ → Chain → Chain
-put none r c = c
-put (some q) r c = when (has q c) c (live q r ∷ c)
+put None r c = c
+put (Some q) r c = when (has q c) c (live q r ∷ c)
 
 abbrev pub step : Delta → Chain → ℕ → Chain
 step δ [] a = put (δ 0 a) 1 []

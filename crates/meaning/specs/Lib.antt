@@ -9,3 +9,4 @@ pub mod Questions
 pub mod Walk
 pub mod Records
 pub mod Answer
+pub mod Refusal

@@ -6,7 +6,7 @@
 --   Reachable, MoreThan the chain of some text; more than N chains are reachable
 --   Numbers δ L         L numbers the chains of all texts: each once, the empty one 0, each fallback lower
 use Rattle.std.specs.Prelude.{◌≡◌, Bool, true, false, ◌&&◌, ◌||◌, ℕ, zero, suc, ◌<◌, length, get_or, eqb, ltb}
-use Rattle.std.proofs.Math.Option.{Option, none, some}
+use Rattle.std.specs.Prelude.{Option, None, Some}
 use mathlib.Core.List.{List, [], ◌∷◌, ◌++◌, Memᴰ}
 use Rattle.meaning.specs.Choice.{when}
 use Rattle.meaning.specs.Text.{Text, Delta}
@@ -40,9 +40,9 @@ opened δ out p L = meet_all δ (get_or L p []) (out (head (get_or L p []))) L
 
 -- the places from p on are opened, lowest first, at most f of them; none where more are left
 abbrev pub grow : Delta → (ℕ → List ℕ) → ℕ → Bool → ℕ → List Chain → Option (List Chain)
-grow δ out zero false p L = some L
-grow δ out zero true p L = none
-grow δ out (suc f) false p L = some L
+grow δ out zero false p L = Some L
+grow δ out zero true p L = None
+grow δ out (suc f) false p L = Some L
 grow δ out (suc f) true p L = let M = opened δ out p L in grow δ out f (ltb (suc p) (length M)) (suc p) M
 
 abbrev pub places : Delta → (ℕ → List ℕ) → ℕ → Option (List Chain)

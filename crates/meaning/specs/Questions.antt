@@ -5,7 +5,7 @@
 --   named heads M p     the chain that a place and its fallbacks name: their heads with their levels
 --   image_of δ out mark L  the image of a book whose chains L numbers: a place has exactly the edges of its head state
 use Rattle.std.specs.Prelude.{◌≡◌, ◌≢◌, List, [], ◌∷◌, ◌++◌, map, ℕ, zero, suc, ◌+◌, ◌≤◌, ◌<◌, length, get_or, eqb}
-use Rattle.std.proofs.Math.Option.{Option, none, some}
+use Rattle.std.specs.Prelude.{Option, None, Some}
 use Rattle.meaning.specs.Choice.{when, then}
 use Rattle.meaning.specs.Text.{Delta, Marks}
 use Rattle.meaning.specs.Chain.{Chain, live, step, head, level, rest}
@@ -20,14 +20,14 @@ pub record Image : Type 0 where
   pub target : ℕ → ℕ
 
 abbrev pub edge_of : Image → ℕ → ℕ → Option ℕ
-edge_of M p a = then (M.find p a) (λ j. some (M.target j))
+edge_of M p a = then (M.find p a) (λ j. Some (M.target j))
 
 pub record Levels (M : Image) : Type 0 where
   pub some_place : 0 < M.count
   pub zero-level : M.level 0 ≡ 0
   pub lower : (p : ℕ) → p < M.count → p ≢ 0 → M.fallback p < p
   pub above : (p : ℕ) → p < M.count → p ≢ 0 → M.level (M.fallback p) < M.level p
-  pub target : (p a q : ℕ) → p < M.count → edge_of M p a ≡ some q → (q < M.count) × (M.level q ≤ suc (M.level p))
+  pub target : (p a q : ℕ) → p < M.count → edge_of M p a ≡ Some q → (q < M.count) × (M.level q ≤ suc (M.level p))
 
 -- with at most f fallbacks
 abbrev pub named_within : ℕ → (ℕ → ℕ) → Image → ℕ → Chain
@@ -39,8 +39,8 @@ named heads M p = named_within p heads M p
 
 -- where the event stands in a list of events, counted on from j
 abbrev pub index_from : ℕ → List ℕ → ℕ → Option ℕ
-index_from j [] a = none
-index_from j (b ∷ es) a = when (eqb b a) (some j) (index_from (suc j) es a)
+index_from j [] a = None
+index_from j (b ∷ es) a = when (eqb b a) (Some j) (index_from (suc j) es a)
 
 module _ (δ : Delta) (out : ℕ → List ℕ) (mark : Marks) (L : List Chain) where
   -- the events of a place's edges, those of its head

@@ -7,7 +7,7 @@
 --   Signature           a word that leads from state 0 to a marked state
 --   Ends                some ending of the text is a signature
 use Rattle.std.specs.Prelude.{◌≡◌, ◌≢◌, List, [], ◌∷◌, ◌++◌, ℕ, ◌≤◌, length}
-use Rattle.std.proofs.Math.Option.{Option, some}
+use Rattle.std.specs.Prelude.{Option, Some}
 use Rattle.meaning.specs.Choice.{then}
 
 abbrev pub Text : Type 0
@@ -24,11 +24,11 @@ abbrev pub Marks : Type 0
 Marks = ℕ → ℕ
 
 abbrev pub read : Delta → ℕ → Text → Option ℕ
-read δ q [] = some q
+read δ q [] = Some q
 read δ q (a ∷ w) = then (δ q a) (λ p. read δ p w)
 
 abbrev pub Leads : Delta → Text → ℕ → ℕ → Type 0
-Leads δ t q n = (s : Text) × (w : Text) × (s ++ w ≡ t) × (length w ≡ n) × (read δ 0 w ≡ some q)
+Leads δ t q n = (s : Text) × (w : Text) × (s ++ w ≡ t) × (length w ≡ n) × (read δ 0 w ≡ Some q)
 
 -- a state other than 0 is alive when some ending leads to it
 abbrev pub Alive : Delta → Text → ℕ → Type 0
@@ -38,7 +38,7 @@ abbrev pub Reach : Delta → Text → ℕ → ℕ → Type 0
 Reach δ t q n = (q ≢ 0) × Leads δ t q n × ((m : ℕ) → Leads δ t q m → n ≤ m)
 
 abbrev pub Signature : Delta → Marks → Text → Type 0
-Signature δ mark w = (q : ℕ) × (read δ 0 w ≡ some q) × (mark q ≢ 0)
+Signature δ mark w = (q : ℕ) × (read δ 0 w ≡ Some q) × (mark q ≢ 0)
 
 abbrev pub Ends : Delta → Marks → Text → Type 0
 Ends δ mark t = (s : Text) × (w : Text) × (s ++ w ≡ t) × Signature δ mark w

@@ -4,7 +4,7 @@
 --                       failure step each time; at place 0 with no edge it stays there, without a step
 --   walk M p t          the events of a text one after the other, failure steps added up
 use Rattle.std.specs.Prelude.{[], ◌∷◌, ℕ, zero, suc, ◌+◌, eqb}
-use Rattle.std.proofs.Math.Option.{Option, none, some}
+use Rattle.std.specs.Prelude.{Option, None, Some}
 use Rattle.meaning.specs.Choice.{when}
 use Rattle.meaning.specs.Text.{Text}
 use Rattle.meaning.specs.Questions.{Image, edge_of}
@@ -18,8 +18,8 @@ stand p n = record { place = p; failed = n }
 
 -- the edge taken, or what is left to do without one
 abbrev pub take-edge : Option ℕ → Stand → Stand
-take-edge none s = s
-take-edge (some q) s = stand q 0
+take-edge None s = s
+take-edge (Some q) s = stand q 0
 
 -- one failure step more
 abbrev pub failing : Stand → Stand

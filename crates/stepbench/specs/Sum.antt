@@ -1,12 +1,10 @@
 -- The answers of single steps, added up.
---   WalkIs              a walk of the numbers of an answer, zeros where it is refused
 --   summed xs q p s t   the sum s, and those of the events t from place p on, in 32 bits
 --   summed_first xs t   from place 0 of an accepted image; 0 for any other
-use Rattle.std.specs.Prelude.{◌≡◌, List, [], ◌∷◌, ℕ, ◌+◌, ◌%◌}
+use Rattle.std.specs.Prelude.{List, [], ◌∷◌, ℕ, ◌+◌, ◌%◌}
 use Rattle.meaning.specs.Answer.{Answer, accepted, refused}
 use Rattle.image.specs.Calls.{next_in}
 use Rattle.image.specs.Rules.{check_image}
-use Rattle.image.specs.declared.Walk.{Walk}
 
 abbrev pub place_in : Answer → ℕ
 place_in (accepted p l n d) = p
@@ -19,11 +17,6 @@ level_in (refused n p) = 0
 abbrev pub steps_in : Answer → ℕ
 steps_in (accepted p l n d) = n
 steps_in (refused n p) = 0
-
-pub record WalkIs (a : Answer) (w : Walk) : Type 0 where
-  pub place : w.place ≡ place_in a
-  pub level : w.level ≡ level_in a
-  pub steps : w.steps ≡ steps_in a
 
 abbrev pub summed : List ℕ → ℕ → ℕ → ℕ → List ℕ → ℕ
 summed xs q p s [] = s

@@ -8,21 +8,15 @@ ghost use Rattle.wire.specs.Little.{ByteIs, NumberIs, le16_at, le32_at, put16_at
 pub fn byte_at(s: &[u8], at: usize) -> usize
     ensures { ByteIs s.now at result }
 {
-    if at < s.len() { s[at] as usize } else { 0 }
-}
-
-fn wide(x: u8) -> usize
-    ensures { NumberIs x 256 result }
-{
-    x as usize
+    if at < s.len() { usize::from(s[at]) } else { 0 }
 }
 
 // Two bytes that are both there, read without a test between them: in one go.
-fn pair(s: &[u8], at: usize) -> usize
+pub fn pair(s: &[u8], at: usize) -> usize
     requires { at + 1 < length s.now }
     ensures { NumberIs (le16_at s.now at) 65536 result }
 {
-    wide(s[at]) + 256 * wide(s[at + 1])
+    usize::from(u16::from_le_bytes([s[at], s[at + 1]]))
 }
 
 pub fn le16(s: &[u8], at: usize) -> usize
@@ -62,8 +56,9 @@ pub fn put16(d: &mut [u8], at: usize, v: usize)
     ensures { d.new ≡ put16_at d.old at v }
 {
     if at < d.len() {
-        put_byte(d, at, (v % 256) as u8);
-        put_byte(d, at + 1, (v / 256 % 256) as u8);
+        let [low, high] = ((v % 65536) as u16).to_le_bytes();
+        put_byte(d, at, low);
+        put_byte(d, at + 1, high);
     }
 }
 

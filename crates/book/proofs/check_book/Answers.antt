@@ -1,60 +1,49 @@
--- `check_book` meets its contract: the trailer's number decides, or else the table does (`Verdict`): at once where it
--- breaks no rule, or else row by row. Assumes nothing.
-use mathlib.Core.Path.{sym, ap, ◌∙◌}
+-- `check_book` meets its contract: the trailer decides, or else the table does: at once where it breaks no rule, or else
+-- row by row. Assumes nothing.
+use mathlib.Core.Path.{sym}
 use native.Mathlib.Omega.{arith}
-use Rattle.book.specs.Rules.{told}
-use Rattle.book.proofs.Judged.{verdict, table_part, table-inside}
+use Rattle.book.proofs.Cases.{err_is}
+use Rattle.book.proofs.Judged.{trailer_answer, trailer_passed, table_holds, table_answer, table_part, table-inside}
 use Rattle.book.proofs.check_book.Goals as goal
 
-pub returns-then-number-ne0 : goal.returns-then-number-ne0
-returns-then-number-ne0 c =
-    let v =
-    verdict c.args.book.now _ c.trailer_of-t.ensures c.has_letters-letters.ensures
-    c.trailer_number-number.ensures in
-    ap told c.refused.ensures ∙ v.refuses c.if-number-ne0.true
+pub returns-in_err-check_trailer : goal.returns-in_err-check_trailer
+returns-in_err-check_trailer c =
+    rw (err_is _ c.from_residual.ensures.1)
+    (trailer_answer c.args.book.now c.trailer_of-t.ensures c.has_letters-letters.ensures (c.in_err-check_trailer.ensures _))
 
-pub slice_bounds-table_right-count : goal.slice_bounds-table_right-count
-slice_bounds-table_right-count c = omega (arith, c.table_at-at.ensures, table-inside c.args.book.now)
+pub slice_bounds-table-count : goal.slice_bounds-table-count
+slice_bounds-table-count c = omega (arith, c.table_at-at.ensures, table-inside c.args.book.now)
 
-pub slice_bounds-table_right-start : goal.slice_bounds-table_right-start
-slice_bounds-table_right-start c = omega (arith, c.table_at-at.ensures, table-inside c.args.book.now)
+pub slice_bounds-table-start : goal.slice_bounds-table-start
+slice_bounds-table-start c = omega (arith, c.table_at-at.ensures, table-inside c.args.book.now)
 
-pub table_right-requires : goal.table_right-requires
-table_right-requires c =
-    let z = c.if-number-ne0.false in
-    let v =
-    verdict c.args.book.now _ c.trailer_of-t.ensures c.has_letters-letters.ensures
-    c.trailer_number-number.ensures in
-    let r = v.right z in
-    let part = table_part c.args.book.now _ c.table_at-at.ensures in
-    (r.some_state, r.states, r.edges, v.holds z _ part)
+pub right-requires : goal.right-requires
+right-requires c =
+    let r = trailer_passed c.args.book.now c.trailer_of-t.ensures c.has_letters-letters.ensures c.in_ok-check_trailer.ensures in (
+      r.some_state,
+      r.states,
+      r.edges,
+      table_holds c.args.book.now c.trailer_of-t.ensures c.has_letters-letters.ensures c.in_ok-check_trailer.ensures
+          _ (table_part c.args.book.now _ c.table_at-at.ensures),
+    )
 
-pub returns-then-table_right : goal.returns-then-table_right
-returns-then-table_right c =
-    let v =
-    verdict c.args.book.now _ c.trailer_of-t.ensures c.has_letters-letters.ensures
-    c.trailer_number-number.ensures in
-    v.passes c.if-number-ne0.false _ _ (table_part c.args.book.now _ c.table_at-at.ensures)
-    (sym (c.table_right.ensures c.if-table_right.true _))
-
-pub slice_bounds-check_table-count : goal.slice_bounds-check_table-count
-slice_bounds-check_table-count c = omega (arith, c.table_at-at.ensures, table-inside c.args.book.now)
-
-pub slice_bounds-check_table-start : goal.slice_bounds-check_table-start
-slice_bounds-check_table-start c = omega (arith, c.table_at-at.ensures, table-inside c.args.book.now)
-
-pub check_table-requires : goal.check_table-requires
-check_table-requires c =
-    let v =
-    verdict c.args.book.now _ c.trailer_of-t.ensures c.has_letters-letters.ensures
-    c.trailer_number-number.ensures in
-    let r = v.right c.if-number-ne0.false in
+pub check-requires : goal.check-requires
+check-requires c =
+    let r = trailer_passed c.args.book.now c.trailer_of-t.ensures c.has_letters-letters.ensures c.in_ok-check_trailer.ensures in
     (r.states, r.edges)
 
-pub returns : goal.returns
-returns c =
-    let v =
-    verdict c.args.book.now _ c.trailer_of-t.ensures c.has_letters-letters.ensures
-    c.trailer_number-number.ensures in
-    v.passes c.if-number-ne0.false _ _ (table_part c.args.book.now _ c.table_at-at.ensures)
-    c.check_table.ensures
+pub returns-in_err-check : goal.returns-in_err-check
+returns-in_err-check c =
+    rw (err_is _ c.from_residual-in_err-check.ensures.1)
+    (table_answer c.args.book.now c.trailer_of-t.ensures c.has_letters-letters.ensures c.in_ok-check_trailer.ensures
+    _ (table_part c.args.book.now _ c.table_at-at.ensures) (c.in_err-check.ensures _))
+
+pub returns-in_ok-check : goal.returns-in_ok-check
+returns-in_ok-check c =
+    table_answer c.args.book.now c.trailer_of-t.ensures c.has_letters-letters.ensures c.in_ok-check_trailer.ensures
+    _ (table_part c.args.book.now _ c.table_at-at.ensures) (c.in_ok-check.ensures _)
+
+pub returns-else-not-right : goal.returns-else-not-right
+returns-else-not-right c =
+    table_answer c.args.book.now c.trailer_of-t.ensures c.has_letters-letters.ensures c.in_ok-check_trailer.ensures
+    _ (table_part c.args.book.now _ c.table_at-at.ensures) (sym (c.right.ensures c.if-not-right.false _))

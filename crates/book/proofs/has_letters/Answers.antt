@@ -1,12 +1,12 @@
 -- `has_letters` meets its contract. Assumes nothing.
-use Rattle.book.proofs.Read.{letters-first, letters-second}
+use Rattle.std.proofs.Common.{rules}
+use Rattle.book.specs.Form.{letters_right}
 use Rattle.book.proofs.has_letters.Goals as goal
 
-pub returns-then-byte_at-letters : goal.returns-then-byte_at-letters
-returns-then-byte_at-letters c =
-    letters-first _ _ _ _ c.trailer_at-at.ensures c.byte_at.ensures.is c.if-byte_at-letters.true
+pub returns-then-byte_at-from : goal.returns-then-byte_at-from
+unfolding letters_right
+returns-then-byte_at-from c = search rules
 
-pub returns : goal.returns
-returns c =
-    letters-second _ _ _ _ c.trailer_at-at.ensures c.byte_at.ensures.is _ c.if-byte_at-letters.false
-    c.byte_at-2.ensures.is
+pub returns-else-byte_at-from : goal.returns-else-byte_at-from
+unfolding letters_right
+returns-else-byte_at-from c = search rules

@@ -1,19 +1,13 @@
-use mathlib.Core.Path.{refl}
-use native.Mathlib.Omega.{arith}
 use Rattle.book.proofs.Look.{seek_here, seek-next, seek_end}
 use Rattle.book.proofs.seek.Goals as goal
 
-pub loop-left-init : goal.loop-left-init
-loop-left-init c = record { bound = c.requires; same = refl }
+pub returns-then-e-event : goal.returns-then-e-event
+returns-then-e-event g c =
+    λ t S h. seek_here (c.loop-j.invariant t S h) c.loop-j-test.true (h _ _ c.edge-e.ensures) c.if-e-event.true
 
-pub returns-then-event_at-event : goal.returns-then-event_at-event
-returns-then-event_at-event c =
-    seek_here c.loop-left.invariant c.loop-left-test.true _ c.event_at.ensures.is _
-    c.if-event_at-event.true c.target_at-q.ensures.is
-
-pub loop-left-preserved : goal.loop-left-preserved
-loop-left-preserved c =
-    seek-next c.loop-left.invariant c.loop-left-test.true _ c.event_at.ensures.is c.if-event_at-event.false
+pub loop-j-preserved : goal.loop-j-preserved
+loop-j-preserved g c =
+    λ t S h. seek-next (c.loop-j.invariant t S h) c.loop-j-test.true (h _ _ c.edge-e.ensures) c.if-e-event.false
 
 pub returns : goal.returns
-returns c = seek_end c.loop-left.invariant (omega arith)
+returns g c = λ t S h. seek_end (c.loop-j.invariant t S h) c.loop-j-test.false

@@ -4,4 +4,4 @@ use Rattle.book.proofs.table_at.Goals as goal
 
 pub returns : goal.returns
 unfolding table_at
-returns c = rw (← c.trailer_of-t.ensures) c.less.ensures
+returns c = rw (← c.trailer_of.ensures) c.saturating_sub.ensures

@@ -1,16 +1,10 @@
 -- `image::ask_fallback` meets its contract.
 -- Assumes nothing.
-use Rattle.image.proofs.Judged.{first_refused, first_accepted}
-use Rattle.image.specs.Answers.{told_checked}
-use mathlib.Core.Path.{sym, ap, ◌∙◌}
+use Rattle.image.proofs.Judged.{told_err}
 use Rattle.image.proofs.ask_fallback.Goals as goal
 
-pub returns-in-Fine : goal.returns-in-Fine
-returns-in-Fine c =
-    c.fallback_in.ensures ∙ sym (first_accepted _ _ _ _
-    (sym (ap told_checked c.in-Fine.is) ∙ c.check_image.ensures))
+pub returns-in_err-ask_place : goal.returns-in_err-ask_place
+returns-in_err-ask_place c = told_err _ _ _ _ c.from_residual.ensures.1 c.in_err-ask_place.ensures.fallback
 
-pub returns-in-Refused : goal.returns-in-Refused
-returns-in-Refused c =
-    sym (first_refused _ _ _ _ (sym (ap told_checked c.in-Refused.is) ∙
-    c.check_image.ensures))
+pub returns : goal.returns
+returns c = c.in_ok-ask_place.ensures.fallback

@@ -1,16 +1,12 @@
 -- `image::step` meets its contract.
 -- Assumes nothing.
-use Rattle.image.proofs.Judged.{first_refused, first_accepted}
-use Rattle.image.specs.Answers.{told_checked}
-use mathlib.Core.Path.{sym, ap, ◌∙◌}
+use mathlib.Core.Path.{sym, ◌∙◌}
+use Rattle.image.proofs.Judged.{first_refused, first_accepted, told_err}
 use Rattle.image.proofs.step.Goals as goal
 
-pub returns-in-Fine : goal.returns-in-Fine
-returns-in-Fine c =
-    c.next_in.ensures ∙ sym (first_accepted _ _ _ _
-    (sym (ap told_checked c.in-Fine.is) ∙ c.check_image.ensures))
+pub returns-in_err-places : goal.returns-in_err-places
+returns-in_err-places c =
+    told_err _ _ _ _ c.from_residual.ensures.1 (sym (first_refused _ _ _ _ c.in_err-places.ensures))
 
-pub returns-in-Refused : goal.returns-in-Refused
-returns-in-Refused c =
-    sym (first_refused _ _ _ _ (sym (ap told_checked c.in-Refused.is) ∙
-    c.check_image.ensures))
+pub returns : goal.returns
+returns c = c.next.ensures ∙ sym (first_accepted _ _ _ _ c.in_ok-places.ensures)

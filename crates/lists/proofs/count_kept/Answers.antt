@@ -1,30 +1,18 @@
-use mathlib.Core.Path.{◌≡◌}
-use native.Mathlib.Omega.{arith}
-use Rattle.lists.specs.Whole.{records_from}
-use Rattle.lists.specs.Short.{keep}
-use Rattle.lists.proofs.Keeping.{counted_same, counted_other}
+-- The range gives each place, the filter those of the kept. Assumes nothing.
+use Rattle.std.proofs.Common.{rules, ◌≡◌, length, arith, ◌∙◌}
+use Rattle.std.specs.List.{filter, range_with_len}
+use Rattle.std.proofs.lemmas.Iterator.{YieldsList-from_range}
+use Rattle.std.proofs.lemmas.Iterator.Consumers.{count_from_yields_List, YieldsList-from_filter}
+use Rattle.lists.specs.Short.{is_kept}
+use Rattle.lists.proofs.Keeping.{kept_counted}
 use Rattle.lists.proofs.count_kept.Goals as goal
 
-pub loop-left-preserved-then-end-last : goal.loop-left-preserved-then-end-last
-loop-left-preserved-then-end-last c =
-    let list = c.args.list.now in (
-      omega arith,
-      omega arith,
-      counted_other list _ _ _ _ c.loop-left-test.true c.le32-end.ensures.is _ _ c.if-end-last.true
-          c.loop-left.invariant.2,
-    )
-
-pub loop-left-preserved : goal.loop-left-preserved
-loop-left-preserved c =
-    let list = c.args.list.now in (
-      omega arith,
-      omega arith,
-      counted_same list _ _ _ _ c.loop-left-test.true c.le32-end.ensures.is _ _ c.if-end-last.false
-          c.loop-left.invariant.2,
-    )
-
 pub returns : goal.returns
-unfolding keep records_from
 returns c =
-    let e : c.loop-left.left ≡ 0 = omega arith in
-    omega (arith, rw e at c.loop-left.invariant.2)
+    let rs = c.args.records.now in
+    let n = length rs in
+    let k : c.count.result ≡ length (filter (is_kept rs) (range_with_len 0 n)) =
+    count_from_yields_List c.filter.result c.count.result c.count.ensures.ran
+    (YieldsList-from_filter _ (is_kept rs) (YieldsList-from_range 0 n n c.filter.ensures.source (omega arith))
+    c.filter.ensures.closure (λ x b q k. search rules)) in
+    k ∙ kept_counted rs

@@ -1,37 +1,33 @@
-use mathlib.Core.Path.{◌≡◌, refl, ◌∙◌}
-use native.Mathlib.Omega.{arith}
-use Rattle.lists.specs.Whole.{records_from}
-use Rattle.lists.specs.Short.{keep}
-use Rattle.lists.proofs.Wrote.{left_done}
-use Rattle.lists.proofs.Keeping.{left_same, left_other}
+-- A record more is written if it is kept. Assumes nothing.
+use mathlib.Core.Path.{◌≡◌}
+use mathlib.Core.Bool.{true, false}
+use lib.Seq.{take_all}
+use Rattle.std.proofs.Common.{rules}
+use Rattle.lists.specs.Short.{short, is_kept}
+use Rattle.lists.proofs.Writes.{writes_none, writes_then}
+use Rattle.lists.proofs.Keeping.{short_other, joined_kept}
 use Rattle.lists.proofs.write_kept.Goals as goal
+use Rattle.lists.proofs.write_kept.Goals.{then-is_kept, else-is_kept}
 
-pub loop-left-init : goal.loop-left-init
-loop-left-init c = (refl, c.requires, λ out r w. w)
+pub loop-i-init : goal.loop-i-init
+unfolding short
+loop-i-init c = writes_none _
 
-pub loop-left-preserved-then-end-last : goal.loop-left-preserved-then-end-last
-loop-left-preserved-then-end-last c =
-    let list = c.args.list.now in (
-      c.put_bytes-to.auto.out ∙ c.loop-left.invariant.0,
-      omega arith,
-      left_other list _ _ _ _ c.loop-left-test.true c.le32-end.ensures.is c.if-end-last.true
-          c.loop-left.invariant.2 c.put_bytes-to.ensures,
-    )
-
-pub loop-left-preserved : goal.loop-left-preserved
-loop-left-preserved c =
-    let list = c.args.list.now in (
-      c.loop-left.invariant.0,
-      omega arith,
-      left_same list _ _ _ _ c.loop-left-test.true c.le32-end.ensures.is c.if-end-last.false
-          c.loop-left.invariant.2,
-    )
-
-pub shape_of-out : goal.shape_of-out
-shape_of-out c = c.loop-left.invariant.0
+pub loop-i-preserved : goal.loop-i-preserved
+loop-i-preserved c =
+    let rs = c.args.records.now in
+    elim c.if-is_kept.branch [
+      | then-is_kept w ↦
+          let k : is_kept rs c.loop-i.i ≡ true = cc in
+          rw (w.text-is, joined_kept rs _ c.loop-i-test.true k) (writes_then c.loop-i.invariant w.put_bytes.ensures)
+      | else-is_kept w ↦
+          let k : is_kept rs c.loop-i.i ≡ false = cc in
+          rw (w.text-is, short_other rs _ c.loop-i-test.true k) c.loop-i.invariant
+    ]
 
 pub returns : goal.returns
-unfolding keep records_from
 returns c =
-    let e : c.loop-left.left ≡ 0 = omega arith in
-    (left_done (rw e at c.loop-left.invariant.2)).memory
+    let lent = c.loop-i.invariant.lent in
+    let all = take_all _ c.args.records.now c.loop-i-test.false in
+    let memory = rw all at c.loop-i.invariant.wrote.memory in
+    search rules

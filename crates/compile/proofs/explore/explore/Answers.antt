@@ -1,45 +1,21 @@
 use native.Mathlib.Omega.{arith}
+use Rattle.std.proofs.lemmas.Result.{err_from_is_err_and}
 use Rattle.compile.proofs.Opening.{exploring_start, exploring_end, exploring_over, exploring_next}
 use Rattle.compile.proofs.explore.explore.Goals as goal
 
 pub loop-p-init : goal.loop-p-init
-loop-p-init c = exploring_start _ c.requires.1
+loop-p-init c = exploring_start _ c.requires
 
-pub entry-requires : goal.entry-requires
-entry-requires c =
-    let few = c.loop-p.invariant.fit.held.few in
-    omega arith
-
-pub overflow_add-edges : goal.overflow_add-edges
-overflow_add-edges c =
-    let few = c.loop-p.invariant.few in
-    let all = c.loop-p.invariant.fit.held.few in
-    let m = c.count_of-edges.ensures.small in
-    omega arith
-
-pub open_place-places-requires : goal.open_place-places-requires
-open_place-places-requires c =
-    let x = c.loop-p.invariant in
-    (record { ready = c.requires.0; fit = x.fit; below = c.loop-p-test.true }, x.opened_is)
-
-pub returns-then-places-gt1024 : goal.returns-then-places-gt1024
-returns-then-places-gt1024 c =
-    let x = c.loop-p.invariant in
-    let few = x.few in
-    let all = x.fit.held.few in
-    let m = c.count_of-edges.ensures.small in
-    exploring_over x c.loop-p-test.true c.open_place-places.ensures _ (omega arith) (omega arith)
-
-pub loop-p-smaller : goal.loop-p-smaller
-loop-p-smaller c =
-    let all = (c.open_place-places.ensures.fit (omega arith)).held.few in
-    omega arith
+pub returns-in_err-open_place : goal.returns-in_err-open_place
+returns-in_err-open_place c =
+    let p = err_from_is_err_and c.from_residual.result c.from_residual.ensures.1 in
+    let x = c.in_err-open_place.ensures in
+    rw (p.1, p.2) (exploring_over c.loop-p.places.fit.held.few c.loop-p.invariant (omega arith) x.0, x.1)
 
 pub loop-p-preserved : goal.loop-p-preserved
 loop-p-preserved c =
-    exploring_next c.loop-p.invariant c.loop-p-test.true c.open_place-places.ensures
-    c.entry.ensures.0 c.count_of-edges.ensures.is c.count_of-edges.ensures.small
-    (omega arith)
+    exploring_next c.loop-p.places.fit.held.few c.loop-p.invariant (omega arith) c.loop-p.places.fit.held
+    c.head.ensures.0 c.count-edges.ensures.is c.count-edges.ensures.small c.in_ok-open_place.ensures
 
 pub returns : goal.returns
-returns c = exploring_end c.loop-p.invariant c.loop-p-test.false
+returns c = exploring_end c.loop-p.places.fit.held.few c.loop-p.invariant (omega arith)

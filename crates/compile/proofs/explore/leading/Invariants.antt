@@ -1,13 +1,11 @@
 -- `leading` meets its contract: from the places passed the event leads nowhere; each fallback is lower. Assumes nothing.
 use Rattle.meaning.specs.Book.{delta}
-use Rattle.book.specs.Model.{table_book}
-use Rattle.compile.specs.Work.{rows}
+use Rattle.compile.specs.Held.{source_book, rows_of}
 use Rattle.compile.proofs.Leading.{Descending}
 use Rattle.compile.proofs.explore.leading.Given as goal
 
 abbrev pub invariant-loop-f : goal.invariant-loop-f
-invariant-loop-f l =
-    Descending (delta (table_book l.table l.states)) (rows l.heads l.levels l.fallbacks) l.p l.event l.f
+invariant-loop-f l = Descending (delta (source_book l.source)) (rows_of l.places) l.p l.event l.f
 
 abbrev pub decreases-loop-f : goal.decreases-loop-f
 decreases-loop-f l = l.f

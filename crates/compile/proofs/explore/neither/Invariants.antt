@@ -1,10 +1,6 @@
--- `neither` meets its contract: a search for either event finds what it finds from edge j on. Assumes nothing.
-use Rattle.book.proofs.Look.{SeekLoop}
+-- `neither` meets its contract: the edges passed have neither event. Assumes nothing.
+use Rattle.compile.proofs.Leading.{Without}
 use Rattle.compile.proofs.explore.neither.Given as goal
 
-abbrev pub invariant-loop-left : goal.invariant-loop-left
-invariant-loop-left l =
-    SeekLoop l.table l.states l.a l.from l.count l.j l.left × SeekLoop l.table l.states l.b l.from l.count l.j l.left
-
-abbrev pub decreases-loop-left : goal.decreases-loop-left
-decreases-loop-left l = l.left
+abbrev pub invariant-loop-j : goal.invariant-loop-j
+invariant-loop-j l = Without l.source.table.bytes.now l.source.table.states l.from l.j l.a l.b

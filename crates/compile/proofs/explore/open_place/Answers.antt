@@ -1,59 +1,60 @@
-use mathlib.Core.Path.{refl}
 use native.Mathlib.Omega.{arith}
-use Rattle.book.proofs.Model.{events-step, events_end}
-use Rattle.compile.proofs.Leading.{place_low, head_low, own-events}
+use Rattle.std.proofs.lemmas.Result.{err_from_is_err_and}
+use mathlib.Core.Path.{refl, ◌≡◌}
+use Prim.Native.Nat.{◌+◌, ◌-◌}
+use Rattle.book.proofs.Model.{events_end}
+use Rattle.compile.proofs.Leading.{stands, own-events, event_next}
 use Rattle.compile.proofs.Opening.{meeting_start, meeting_end, meeting_next, meeting_over}
-use Rattle.compile.proofs.Alike.{passed_start, next_edge, passed-next}
+use Rattle.compile.proofs.Alike.{passed_start, next_edge, passed-next, read_target, read-rest, alike_met}
 use Rattle.compile.proofs.explore.open_place.Goals as goal
 
-pub entry-head-requires : goal.entry-head-requires
-entry-head-requires c = place_low c.requires.0
-
-pub of_head-from-requires : goal.of_head-from-requires
-of_head-from-requires c = head_low c.requires.0 c.entry-head.ensures.0
-
-pub loop-left-init : goal.loop-left-init
-loop-left-init c =
-    let x = c.requires.0 in (
-      omega arith,
-      refl,
-      meeting_start _ _ x.fit x.below c.requires.1
-          (own-events x c.entry-head.ensures.0 c.count_of-left.ensures.is c.of_head-from.ensures.0),
+pub loop-j-init : goal.loop-j-init
+loop-j-init c =
+    let x = stands c.args.source.now.ready c.args.places.now.fit c.requires.0 in
+    let e : c.first_edge-from.result + c.count.result - c.first_edge-from.result ≡ c.count.result = omega arith in (
+      rw e (meeting_start _ _ x.fit.held x.below c.requires.1
+          (own-events x c.head-head.ensures.0 c.count.ensures.is c.first_edge-from.ensures.0)),
       passed_start,
     )
 
-pub meet_next-met-requires : goal.meet_next-met-requires
-meet_next-met-requires c =
-    let x = c.requires.0 in
-    let i = c.loop-left.invariant in
-    let m = i.2 in
-    let sum = i.1 in
-    let some_left = c.loop-left-test.true in
-    let few = c.count_of-left.ensures.small in
-    let low = c.of_head-from.ensures.1 in (
-      record { ready = x.ready; fit = m.fit; below = m.below },
-      next_edge m i.3 x refl c.entry-head.ensures.0 c.count_of-left.ensures.is
-          c.of_head-from.ensures.0 i.0 (omega arith),
-      omega arith,
-    )
+pub loop-j-preserved-then-met_before : goal.loop-j-preserved-then-met_before
+loop-j-preserved-then-met_before c =
+    let e = c.edge-edge.ensures.is in
+    let i = c.loop-j.invariant in
+    let x = stands c.args.source.now.ready c.args.places.now.fit c.requires.0 in
+    let now = stands c.args.source.now.ready c.loop-j.places.fit i.0.below in
+    let next = next_edge i.0 i.1 x now.fit.held refl c.head-head.ensures.0 c.count.ensures.is c.first_edge-from.ensures.0
+    c.loop-j.auto.j c.loop-j-test.true in
+    let met = alike_met now next e (c.met_before.ensures c.if-met_before.true) in
+    let first = event_next _ _ _ _ c.loop-j-test.true e in
+    (meeting_next i.0 first met, passed-next i.0 i.1 e first met)
 
-pub returns-then-n-gt1024 : goal.returns-then-n-gt1024
-returns-then-n-gt1024 c =
-    meeting_over c.loop-left.invariant.2 (events-step _ _ _ _ c.loop-left-test.true)
-    c.meet_next-met.ensures c.if-n-gt1024.true
+pub meet_edge-requires : goal.meet_edge-requires
+meet_edge-requires c =
+    let e = c.edge-edge.ensures.is in
+    let i = c.loop-j.invariant in
+    let x = stands c.args.source.now.ready c.args.places.now.fit c.requires.0 in
+    let now = stands c.args.source.now.ready c.loop-j.places.fit i.0.below in
+    let next = next_edge i.0 i.1 x now.fit.held refl c.head-head.ensures.0 c.count.ensures.is c.first_edge-from.ensures.0
+    c.loop-j.auto.j c.loop-j-test.true in
+    (i.0.below, read-rest now next e, read_target now next e)
 
-pub loop-left-preserved : goal.loop-left-preserved
-loop-left-preserved c =
-    let l = c.loop-left-test.true in
-    let i = c.loop-left.invariant in
-    let g = c.meet_next-met.ensures in (
-      omega arith,
-      omega arith,
-      meeting_next i.2 (events-step _ _ _ _ l) g c.if-n-gt1024.false,
-      passed-next i.2 i.3 (events-step _ _ _ _ l) g c.if-n-gt1024.false,
-    )
+pub returns-in_err-meet_edge : goal.returns-in_err-meet_edge
+returns-in_err-meet_edge c =
+    let p = err_from_is_err_and c.from_residual.result c.from_residual.ensures.1 in
+    let x = c.in_err-meet_edge.ensures in
+    let first = event_next _ _ _ _ c.loop-j-test.true c.edge-edge.ensures.is in
+    rw (p.1, p.2) (meeting_over c.loop-j.invariant.0 first x.0, x.1)
+
+pub loop-j-preserved : goal.loop-j-preserved
+loop-j-preserved c =
+    let e = c.edge-edge.ensures.is in
+    let i = c.loop-j.invariant in
+    let first = event_next _ _ _ _ c.loop-j-test.true e in
+    let met = c.in_ok-meet_edge.ensures in
+    (meeting_next i.0 first met, passed-next i.0 i.1 e first met)
 
 pub returns : goal.returns
 returns c =
-    let l = c.loop-left in
-    meeting_end l.invariant.2 (events_end c.args.table.now c.args.states l.left l.j (omega arith))
+    let l = c.loop-j in
+    meeting_end l.invariant.0 (events_end c.args.source.now.table.bytes.now c.args.source.now.table.states _ l.j (omega arith))

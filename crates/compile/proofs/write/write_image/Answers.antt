@@ -1,25 +1,18 @@
 -- `write_image` meets its contract. Assumes nothing.
 use Rattle.compile.proofs.Reading.{known_start, room_left}
-use Rattle.compile.proofs.Records.{places_end, edges_end, image_wrote}
+use Rattle.compile.proofs.Records.{image_few, image_wrote}
 use Rattle.compile.proofs.write.write_image.Goals as goal
 
-pub write_edges-edges_end-requires : goal.write_edges-edges_end-requires
-write_edges-edges_end-requires c =
-    let n = c.requires.1 in
-    let w = c.write_places-places_end.ensures in (
-      c.requires.0,
-      n,
-      known_start n c.requires.2 c.requires.3 w,
-      places_end n w,
-      room_left n c.requires.2 c.requires.3 w,
-    )
+pub write_edges-requires : goal.write_edges-requires
+write_edges-requires c =
+    let x = c.requires in
+    let d = c.args.out.now in
+    (known_start x.0 d x.1 x.2 c.write_places.ensures, room_left x.0 d x.1 x.2 c.write_places.ensures)
 
-pub write_trailer-requires : goal.write_trailer-requires
-write_trailer-requires c =
-    edges_end c.requires.1 (places_end c.requires.1 c.write_places-places_end.ensures) c.requires.2
-    c.write_edges-edges_end.ensures
+pub write-requires : goal.write-requires
+write-requires c = rw c.count.ensures (image_few c.requires.0 c.requires.1)
 
 pub returns : goal.returns
 returns c =
-    image_wrote c.requires.1 c.requires.2 c.write_places-places_end.ensures
-    c.write_edges-edges_end.ensures c.write_trailer.ensures
+    image_wrote c.requires.0 c.args.out.now c.requires.1 c.write_places.ensures c.write_edges.ensures
+    (rw c.count.ensures at c.write.ensures)

@@ -1,5 +1,6 @@
 -- The letter of the log's last event of a record: event number 0 is none. Assumes nothing.
 use mathlib.Core.Path.{ap, ◌∙◌}
+use Rattle.std.proofs.Common.{rules, ◌≡◌, get_or, ◌-◌}
 use Rattle.lists.specs.Group.{group_of}
 use Rattle.lists.proofs.Lines.{event_none, event_at}
 use Rattle.lists.proofs.listing.last_letter.Goals as goal
@@ -12,4 +13,5 @@ returns-then-end-eq0 c =
 pub returns : goal.returns
 returns c =
     let log = c.args.log.now in
-    c.group-2.ensures ∙ ap group_of (c.byte_at.ensures.is ∙ event_at log _ c.if-end-eq0.false)
+    let e : c.unwrap_or.result ≡ get_or log (c.args.end - 1) 0 = search rules in
+    c.group-2.ensures ∙ ap group_of (e ∙ event_at log _ c.if-end-eq0.false)

@@ -1,0 +1,14 @@
+-- `held_edge` meets its contract: the numbers of a record that is among the bytes. Assumes nothing.
+use Rattle.std.proofs.Common.{rules}
+use Rattle.book.specs.Form.{edge_record_at}
+use Rattle.book.proofs.Table.held_edge.Goals as goal
+
+pub returns : goal.returns
+unfolding edge_record_at
+returns c =
+    let n = c.pair.ensures in
+    record {
+      is = λ i. record { event = c.from.ensures i; spare = c.from-2.ensures i; target = n.is i };
+      event = search rules;
+      target = n.small;
+    }

@@ -1,6 +1,0 @@
-use Rattle.gusemrak.specs.Face.{face}
-use mathlib.Core.Path.{ap, ◌∙◌}
-use Rattle.gusemrak.proofs.gusemrak_fallback.Goals as goal
-
-pub returns : goal.returns
-returns c = c.asked.ensures ∙ ap face c.ask_fallback.ensures
