@@ -11,14 +11,11 @@
 --   reached                     every other state is reached by an edge
 --   ends_marked                 every other state without an edge is marked
 --   marks_small, outs_small     marks and events are bytes
---   delta_names, names_delta    the events that lead on from a state are those that its edges name: of any book
 use mathlib.Core.Path.{◌≡◌, refl, sym, ap, ◌∙◌, subst}
-use mathlib.Core.Logic.{◌≢◌, ⊎_elim}
+use mathlib.Core.Logic.{◌≢◌}
 use mathlib.Core.Bool.{Bool, true, false, not, ◌&&◌}
 use Rattle.std.specs.Prelude.{Option, None, Some}
 use mathlib.Core.List.{List, [], ◌∷◌, map}
-use mathlib.Core.List.Memᴰ
-use mathlib.Core.List.{Memᴰ}
 use Prim.Native.Nat.{ℕ, zero, suc, ◌+◌, ◌-◌, ◌≤◌, ◌<◌}
 use native.Mathlib.Omega.{arith}
 use lib.ListN.{length, get_or}
@@ -26,12 +23,12 @@ use lib.Seq.{get_or-drop}
 use lib.Dec.{eqb, ltb}
 use borrow.Author.Tests.{eqb-true, eq-eqb, ne_eqb, leb-false, lt-ltb}
 use Rattle.meaning.specs.Answer.{accepted}
-use Rattle.meaning.specs.Book.{Edge, Book, state_at, look, delta, outs, marks}
+use Rattle.meaning.specs.Book.{Edge, delta, outs, marks}
 use Rattle.book.specs.Form.{most_states, most_edges, SB, letters_right, trailer_of, table_at, table_of}
 use Rattle.book.specs.Form.{state_record_at, edge_record_at}
 use Rattle.book.specs.Model.{list_from, first_edge, table_book, book_of, edges_below, firsts_of, Rising, lead_of}
 use Rattle.book.specs.Rules.{entered, trailer_rules, table_rules, check_book}
-use Rattle.book.proofs.Cases.{by_bool, by_below, none_some, true_false, not_false, or_false}
+use Rattle.book.proofs.Cases.{by_below, none_some, true_false, not_false, or_false}
 use Rattle.book.proofs.Judged.{Passed, judged-passed, rule-passed, TrailerRight, trailer_right_lem}
 use Rattle.book.proofs.Searches.{first_fault_none, own_faults_none, entered-edge, owner, rise_all}
 use Rattle.book.proofs.Searches.{look_some, look_finds}
@@ -77,28 +74,6 @@ table_right t S E (p7, (p8, (p9, (p10, (p11, (p12, (p13, _))))))) =
 
     other : (s : ℕ) → s ≢ 0 → not (eqb s 0) ≡ true
     other s n = rw (ne_eqb s 0 n)
-
--- ---- what leads on and what edges name, of any book
-look_names : (es : List Edge) (a p : ℕ) → look es a ≡ Some p → Memᴰ a (map (λ (e : Edge). e.event) es)
-look_names [] a p e = none_some refl e
-look_names (x ∷ es) a p e =
-    by_bool (eqb x.event a) (λ b. Memᴰ.head (sym (eqb-true x.event a b)))
-    (λ b. Memᴰ.tail (look_names es a p (sym (rw b) ∙ e)))
-
-names_look : (es : List Edge) (a : ℕ) → Memᴰ a (map (λ (e : Edge). e.event) es) → (p : ℕ) × (look es a ≡ Some p)
-names_look [] a m = absurd (Memᴰ.not-nil m)
-names_look (x ∷ es) a m =
-    by_bool (eqb x.event a) (λ b. (x.target, rw b))
-    (λ b.
-    ⊎_elim (λ e. true_false (eq-eqb x.event a (sym e)) b)
-    (λ k. let w = names_look es a k in (w.0, rw b w.1)) (Memᴰ.cases_cons m))
-
-module _ (B : Book) (q a : ℕ) where
-  pub delta_names : (p : ℕ) → delta B q a ≡ Some p → Memᴰ a (outs B q)
-  delta_names p e = look_names (state_at B q).edges a p e
-
-  pub names_delta : Memᴰ a (outs B q) → (p : ℕ) × (delta B q a ≡ Some p)
-  names_delta m = names_look (state_at B q).edges a m
 
 -- ---- the model of a right table
 map-list_from : {A : Type 0} (g : A → ℕ) (f : ℕ → A) (n k : ℕ) → map g (list_from f n k) ≡ list_from (λ i. g (f i)) n k

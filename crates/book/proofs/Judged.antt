@@ -81,19 +81,22 @@ trailer_right_lem n l T (p1, (p2, (p3, (p4, (p5, (p6, _)))))) =
 
 -- ---- from the trailer to the table
 -- what the check of the trailer says of the answer for the bytes xs, which have the trailer T
-module _ (xs : List ℕ) {T : Trailer} {l : Bool} (e : T ≡ trailer_of xs) (f : l ≡ letters_right SB xs) where
+module _ (xs : List ℕ) {T : Trailer} (e : T ≡ trailer_of xs) where
+  abbrev letters : Bool
+  letters = letters_right SB xs
+
   abbrev rest : Answer
   rest = judged (table_rules (table_of xs) T.states T.edges) (accepted T.states T.edges 0 0)
 
-  pub trailer_answer : {y : Answer} → y ≡ judged (trailer_rules (length xs) l T) rest → y ≡ check_book xs
+  pub trailer_answer : {y : Answer} → y ≡ judged (trailer_rules (length xs) letters T) rest → y ≡ check_book xs
   unfolding check_book
-  trailer_answer h = rw (← e, ← f) h
+  trailer_answer h = rw (← e) h
 
-  module _ (h : (x : Answer) → x ≡ judged (trailer_rules (length xs) l T) x) where
-    pub trailer_passed : TrailerRight (length xs) l T
+  module _ (h : (x : Answer) → x ≡ judged (trailer_rules (length xs) letters T) x) where
+    pub trailer_passed : TrailerRight (length xs) letters T
     trailer_passed =
-        trailer_right_lem (length xs) l T
-        (judged-passed (trailer_rules (length xs) l T) (accepted 0 0 0 0) (sym (h (accepted 0 0 0 0)))).0
+        trailer_right_lem (length xs) letters T
+        (judged-passed (trailer_rules (length xs) letters T) (accepted 0 0 0 0) (sym (h (accepted 0 0 0 0)))).0
 
     module _ (t : List ℕ) (p : t ≡ table_of xs) where
       pub table_holds : HoldsEdges t T.states T.edges

@@ -33,7 +33,7 @@ target_inside S s e h = leb-false _ _ (or_false (leb e.target s) _ h).1
 
 -- ---- the states: s is the next one
 abbrev pub StatesLoop : List ℕ → ℕ → ℕ → ℕ → Type 0
-StatesLoop t S E s = (reason : Reason) → StateLoop reason t S E s
+StatesLoop t S E s = (reason : Reason) → StateLoop (state_breaks reason) t S E s
 
 pub states_next : {t : List ℕ} {S E s : ℕ} → StatesLoop t S E s → s < S → S ≤ most_states
     → {r : List Bool} → EnteredAre t S E r → {x : StateRecord} → x ≡ state_record_at t s
@@ -45,7 +45,7 @@ states_end L z reason = sym (state_end (L reason) z)
 
 -- ---- one state's edges: j is the next one, after an edge with the event `before`
 pub record RightLoop (t : List ℕ) (S s first count j : ℕ) (before : Option ℕ) (r : List Bool) : Type 0 where
-  pub passed : (reason : Reason) → EdgeLoop reason t S s first count j before
+  pub passed : (reason : Reason) → EdgeLoop (edge_breaks reason S) t S s first count j before
   pub entered : EnteredAre t S j r
 
 pub right_next : {t : List ℕ} {S s first count j : ℕ} {before : Option ℕ} {r : List Bool}
@@ -66,12 +66,12 @@ right_end {t} {S} {r = r} L e =
 -- ---- all states' edges: s is the next state, whose edges start at edge `first`
 pub record SoundLoop (t : List ℕ) (S E s first : ℕ) (r : List Bool) : Type 0 where
   pub fits : first ≤ E
-  pub passed : (reason : Reason) → OwnLoop reason t S s first
+  pub passed : (reason : Reason) → OwnLoop (edge_breaks reason S) t S s first
   pub entered : EnteredAre t S first r
 
 pub sound_start : (t : List ℕ) (S E : ℕ) → SoundLoop t S E 0 0 (replicate 512 false)
 sound_start t S E =
-    record { fits = omega arith; passed = λ reason. own_start reason t S; entered = entered_start t S }
+    record { fits = omega arith; passed = λ reason. own_start (edge_breaks reason S) t S; entered = entered_start t S }
 
 pub sound_next : {t : List ℕ} {S E s first : ℕ} {r r' : List Bool} → SoundLoop t S E s first r → s < S
     → {x : StateRecord} → x ≡ state_record_at t s → x.count < 65536 → x.count ≤ E - first
@@ -87,7 +87,7 @@ sound_next L h k small few R =
 -- ---- every rule is passed
 module _ {t : List ℕ} {S E s first : ℕ} {r : List Bool} (L : SoundLoop t S E s first r) (z : s ≡ S)
     (e : first ≡ E) where
-  owns : (reason : Reason) → own_faults (own_broken reason t S) t S S 0 ≡ None
+  owns : (reason : Reason) → own_faults (own_broken (edge_breaks reason S) t S) t S S 0 ≡ None
   owns reason = sym (own_end (L.passed reason) (omega arith))
 
   sum : first_edge t S ≡ E
@@ -103,7 +103,7 @@ module _ {t : List ℕ} {S E s first : ℕ} {r : List Bool} (L : SoundLoop t S E
       let q = sum in
       let o = owner t S j (omega arith) in
       let m = o.1 in
-      own_faults_none (own_broken Spare t S) t S S 0 (owns Spare) o.0 (omega arith) (omega arith) j o.2 o.3)
+      own_faults_none (own_broken (edge_breaks Spare S) t S) t S S 0 (owns Spare) o.0 (omega arith) (omega arith) j o.2 o.3)
 
   rises : own_faults (λ s j. not_above (first_edge t s) j (edge_record_at t S j) (edge_record_at t S (j - 1)).event) t S S 0 ≡ None
   rises = rw (order_is t S) (owns Order)

@@ -19,9 +19,8 @@ use Rattle.meaning.specs.Answer.{Answer, accepted, faulty}
 use Rattle.book.specs.Form.{most_states, state_place, edge_place, state_record_at, edge_record_at}
 use Rattle.book.specs.Model.{first_edge}
 use Rattle.book.specs.Rules.{first_fault, or_else, own_faults, not_above, entered}
-use Rattle.meaning.specs.declared.Reason.{Reason}
 use Rattle.meaning.specs.declared.Reason.TheVariants.{Order}
-use Rattle.book.specs.Reads.{state_breaks, edge_breaks, state_broken, edge_broken, own_broken, own_fault, prior, not_after, EnteredAre}
+use Rattle.book.specs.Reads.{edge_breaks, state_broken, edge_broken, own_broken, own_fault, prior, not_after, EnteredAre}
 use Rattle.book.specs.declared.StateRecord.{StateRecord}
 use Rattle.book.specs.declared.EdgeRecord.{EdgeRecord}
 use Rattle.book.proofs.Cases.{by_eq}
@@ -88,63 +87,63 @@ own_faults-turn bad t S end s h =
     rw e (own_faults-step bad t S (end - s) s (omega arith))
 
 -- ---- the states: s is the next one
-pub record StateLoop (reason : Reason) (t : List ℕ) (S E s : ℕ) : Type 0 where
-  pub same : first_fault (state_broken reason t S E) state_place S 0
-      ≡ first_fault (state_broken reason t S E) state_place (S - s) s
+pub record StateLoop (rule : ℕ → StateRecord → Bool → Bool) (t : List ℕ) (S E s : ℕ) : Type 0 where
+  pub same : first_fault (state_broken rule t S E) state_place S 0
+      ≡ first_fault (state_broken rule t S E) state_place (S - s) s
 
-pub state_end : {reason : Reason} {t : List ℕ} {S E s : ℕ} → StateLoop reason t S E s → S ≤ s
-    → None ≡ first_fault (state_broken reason t S E) state_place S 0
+pub state_end : {rule : ℕ → StateRecord → Bool → Bool} {t : List ℕ} {S E s : ℕ} → StateLoop rule t S E s → S ≤ s
+    → None ≡ first_fault (state_broken rule t S E) state_place S 0
 state_end L z = sym (L.same ∙ first_fault_end _ _ _ _ (omega arith))
 
-module _ {reason : Reason} {t : List ℕ} {S E s : ℕ} (L : StateLoop reason t S E s) (h : s < S) (few : S ≤ most_states)
+module _ {rule : ℕ → StateRecord → Bool → Bool} {t : List ℕ} {S E s : ℕ} (L : StateLoop rule t S E s) (h : s < S) (few : S ≤ most_states)
     {r : List Bool} (R : EnteredAre t S E r) {x : StateRecord} (k : x ≡ state_record_at t s)
-    {b : Bool} (f : b ≡ state_breaks reason s x (get_or r s false)) where
+    {b : Bool} (f : b ≡ rule s x (get_or r s false)) where
   abbrev state_rest : Option ℕ
-  state_rest = first_fault (state_broken reason t S E) state_place (S - (s + 1)) (s + 1)
+  state_rest = first_fault (state_broken rule t S E) state_place (S - (s + 1)) (s + 1)
 
-  state_turn : first_fault (state_broken reason t S E) state_place S 0 ≡ when b (Some (state_place s)) state_rest
+  state_turn : first_fault (state_broken rule t S E) state_place S 0 ≡ when b (Some (state_place s)) state_rest
   state_turn =
-      L.same ∙ first_fault-turn (state_broken reason t S E) state_place S s h
+      L.same ∙ first_fault-turn (state_broken rule t S E) state_place S s h
       ∙ ap (λ (c : Bool). when c (Some (state_place s)) state_rest) same
     where
-      same : state_broken reason t S E s ≡ b
+      same : state_broken rule t S E s ≡ b
       same = rw (← R.is s (omega arith), ← k) (sym f)
 
-  pub state_found : b ≡ true → Some (state_place s) ≡ first_fault (state_broken reason t S E) state_place S 0
+  pub state_found : b ≡ true → Some (state_place s) ≡ first_fault (state_broken rule t S E) state_place S 0
   state_found e = sym (state_turn ∙ rw e)
 
-  pub state-next : b ≡ false → StateLoop reason t S E (s + 1)
+  pub state-next : b ≡ false → StateLoop rule t S E (s + 1)
   state-next e = record { same = state_turn ∙ rw e }
 
 -- ---- one state's edges: j is the next one, after an edge with the event `before`
-pub record EdgeLoop (reason : Reason) (t : List ℕ) (S s first count j : ℕ) (before : Option ℕ) : Type 0 where
+pub record EdgeLoop (rule : ℕ → EdgeRecord → Option ℕ → Bool) (t : List ℕ) (S s first count j : ℕ) (before : Option ℕ) : Type 0 where
   pub before_is : before ≡ prior t S first j
-  pub same : first_fault (edge_broken reason t S first s) (edge_place S) count first
-      ≡ first_fault (edge_broken reason t S first s) (edge_place S) (first + count - j) j
+  pub same : first_fault (edge_broken rule t S first s) (edge_place S) count first
+      ≡ first_fault (edge_broken rule t S first s) (edge_place S) (first + count - j) j
 
-pub edge_end_lem : {reason : Reason} {t : List ℕ} {S s first count j : ℕ} {before : Option ℕ}
-    → EdgeLoop reason t S s first count j before → first + count ≤ j
-    → None ≡ first_fault (edge_broken reason t S first s) (edge_place S) count first
+pub edge_end_lem : {rule : ℕ → EdgeRecord → Option ℕ → Bool} {t : List ℕ} {S s first count j : ℕ} {before : Option ℕ}
+    → EdgeLoop rule t S s first count j before → first + count ≤ j
+    → None ≡ first_fault (edge_broken rule t S first s) (edge_place S) count first
 edge_end_lem L z = sym (L.same ∙ first_fault_end _ _ _ _ (omega arith))
 
-module _ {reason : Reason} {t : List ℕ} {S s first count j : ℕ} {before : Option ℕ}
-    (L : EdgeLoop reason t S s first count j before) (h : j < first + count)
-    {e : EdgeRecord} (k : e ≡ edge_record_at t S j) {b : Bool} (f : b ≡ edge_breaks reason S s e before) where
+module _ {rule : ℕ → EdgeRecord → Option ℕ → Bool} {t : List ℕ} {S s first count j : ℕ} {before : Option ℕ}
+    (L : EdgeLoop rule t S s first count j before) (h : j < first + count)
+    {e : EdgeRecord} (k : e ≡ edge_record_at t S j) {b : Bool} (f : b ≡ rule s e before) where
   abbrev edge_rest : Option ℕ
-  edge_rest = first_fault (edge_broken reason t S first s) (edge_place S) (first + count - (j + 1)) (j + 1)
+  edge_rest = first_fault (edge_broken rule t S first s) (edge_place S) (first + count - (j + 1)) (j + 1)
 
-  edge_turn : first_fault (edge_broken reason t S first s) (edge_place S) count first ≡ when b (Some (edge_place S j)) edge_rest
+  edge_turn : first_fault (edge_broken rule t S first s) (edge_place S) count first ≡ when b (Some (edge_place S j)) edge_rest
   edge_turn =
-      L.same ∙ first_fault-turn (edge_broken reason t S first s) (edge_place S) (first + count) j h
+      L.same ∙ first_fault-turn (edge_broken rule t S first s) (edge_place S) (first + count) j h
       ∙ ap (λ (c : Bool). when c (Some (edge_place S j)) edge_rest) same
     where
-      same : edge_broken reason t S first s j ≡ b
+      same : edge_broken rule t S first s j ≡ b
       same = rw (← L.before_is, ← k) (sym f)
 
-  pub edge_found : b ≡ true → Some (edge_place S j) ≡ first_fault (edge_broken reason t S first s) (edge_place S) count first
+  pub edge_found : b ≡ true → Some (edge_place S j) ≡ first_fault (edge_broken rule t S first s) (edge_place S) count first
   edge_found p = sym (edge_turn ∙ rw p)
 
-  pub edge-next : first ≤ j → b ≡ false → EdgeLoop reason t S s first count (j + 1) (Some e.event)
+  pub edge-next : first ≤ j → b ≡ false → EdgeLoop rule t S s first count (j + 1) (Some e.event)
   edge-next l p =
       let d : j + 1 - 1 ≡ j = omega arith in
       record { before_is = rw (lt-ltb first (j + 1) (omega arith), d, ← k); same = edge_turn ∙ rw p }
@@ -152,7 +151,7 @@ module _ {reason : Reason} {t : List ℕ} {S s first count j : ℕ} {before : Op
 -- the rule of 9, as the table of refusals has it
 pub order_is : (t : List ℕ) (S : ℕ)
     → ◌≡◌ {A = ℕ → ℕ → Bool} (λ s j. not_above (first_edge t s) j (edge_record_at t S j) (edge_record_at t S (j - 1)).event)
-    (own_broken Order t S)
+    (own_broken (edge_breaks Order S) t S)
 order_is t S =
     λ i s j. after (ltb (first_edge t s) j) (edge_record_at t S j) (edge_record_at t S (j - 1)).event i
   where
@@ -161,38 +160,38 @@ order_is t S =
     after false e event = refl
 
 -- ---- all states' edges: s is the next state, whose edges start at edge `first`
-pub record OwnLoop (reason : Reason) (t : List ℕ) (S s first : ℕ) : Type 0 where
+pub record OwnLoop (rule : ℕ → EdgeRecord → Option ℕ → Bool) (t : List ℕ) (S s first : ℕ) : Type 0 where
   pub most : first ≤ 65536 * s
   pub first_is : first ≡ first_edge t s
-  pub same : own_faults (own_broken reason t S) t S S 0 ≡ own_faults (own_broken reason t S) t S (S - s) s
+  pub same : own_faults (own_broken rule t S) t S S 0 ≡ own_faults (own_broken rule t S) t S (S - s) s
 
-pub own_start : (reason : Reason) (t : List ℕ) (S : ℕ) → OwnLoop reason t S 0 0
-own_start reason t S =
+pub own_start : (rule : ℕ → EdgeRecord → Option ℕ → Bool) (t : List ℕ) (S : ℕ) → OwnLoop rule t S 0 0
+own_start rule t S =
     let e : S - 0 ≡ S = omega arith in
     record { most = omega arith; first_is = sym (first_edge-zero t); same = rw e }
 
-pub own_end : {reason : Reason} {t : List ℕ} {S s first : ℕ} → OwnLoop reason t S s first → S ≤ s
-    → None ≡ own_faults (own_broken reason t S) t S S 0
+pub own_end : {rule : ℕ → EdgeRecord → Option ℕ → Bool} {t : List ℕ} {S s first : ℕ} → OwnLoop rule t S s first → S ≤ s
+    → None ≡ own_faults (own_broken rule t S) t S S 0
 own_end L z = sym (L.same ∙ own_faults_end _ _ _ _ _ (omega arith))
 
-module _ {reason : Reason} {t : List ℕ} {S s first : ℕ} (L : OwnLoop reason t S s first) (h : s < S)
+module _ {rule : ℕ → EdgeRecord → Option ℕ → Bool} {t : List ℕ} {S s first : ℕ} (L : OwnLoop rule t S s first) (h : s < S)
     {x : StateRecord} (k : x ≡ state_record_at t s) where
   abbrev own_rest : Option ℕ
-  own_rest = own_faults (own_broken reason t S) t S (S - (s + 1)) (s + 1)
+  own_rest = own_faults (own_broken rule t S) t S (S - (s + 1)) (s + 1)
 
-  own_turn : own_faults (own_broken reason t S) t S S 0 ≡ or_else (own_fault reason t S s first x.count) own_rest
+  own_turn : own_faults (own_broken rule t S) t S S 0 ≡ or_else (own_fault rule t S s first x.count) own_rest
   own_turn =
-      L.same ∙ own_faults-turn (own_broken reason t S) t S S s h ∙ ap (λ (o : Option ℕ). or_else o own_rest) (sym same)
+      L.same ∙ own_faults-turn (own_broken rule t S) t S S s h ∙ ap (λ (o : Option ℕ). or_else o own_rest) (sym same)
     where
-      same : own_fault reason t S s first x.count
-          ≡ first_fault (own_broken reason t S s) (edge_place S) (state_record_at t s).count (first_edge t s)
+      same : own_fault rule t S s first x.count
+          ≡ first_fault (own_broken rule t S s) (edge_place S) (state_record_at t s).count (first_edge t s)
       same = let z = L.first_is in rw (← z, ← k)
 
-  pub own_found : {y : Answer} (n : ℕ) → ((z : Answer) → y ≡ faulty n (own_fault reason t S s first x.count) z)
-      → (z : Answer) → y ≡ faulty n (own_faults (own_broken reason t S) t S S 0) z
-  own_found n g z = rw (own_turn, faulty_or n (own_fault reason t S s first x.count)) (g (faulty n own_rest z))
+  pub own_found : {y : Answer} (n : ℕ) → ((z : Answer) → y ≡ faulty n (own_fault rule t S s first x.count) z)
+      → (z : Answer) → y ≡ faulty n (own_faults (own_broken rule t S) t S S 0) z
+  own_found n g z = rw (own_turn, faulty_or n (own_fault rule t S s first x.count)) (g (faulty n own_rest z))
 
-  pub own-next : x.count < 65536 → own_fault reason t S s first x.count ≡ None → OwnLoop reason t S (s + 1) (first + x.count)
+  pub own-next : x.count < 65536 → own_fault rule t S s first x.count ≡ None → OwnLoop rule t S (s + 1) (first + x.count)
   own-next small e =
       let m = L.most in
       record { most = omega arith; first_is = count_turn t s L.first_is k; same = own_turn ∙ rw e }

@@ -1,7 +1,7 @@
--- What the readers answer, and the functions below the check, which go by the reason of a refusal.
+-- What the readers answer, and the functions below the check.
 --   StateIs, EdgeIs            a record, with its numbers small
---   state_breaks, edge_breaks  does a record break the rule; not_after, prior: the event of the edge before it
---   state_broken, edge_broken  the same of a table's records; own_broken, of an edge as one of its state
+--   state_breaks, edge_breaks  the rule of a reason; not_after, prior: the event of the edge before it
+--   state_broken, edge_broken  does a record of a table break a rule; own_broken, of an edge as one of its state
 --   own_fault                  the first of one state's edges at fault
 --   HoldsStates, HoldsEdges    the records of n states, of the edges below edge n, are among the bytes
 --   StatesRight, OwnRight      no rule is broken by the states; by one state's edges, and the array has these too
@@ -50,19 +50,19 @@ edge_breaks _ S s e before = astray S s e
 abbrev pub prior : List ℕ → ℕ → ℕ → ℕ → Option ℕ
 prior t S first j = when (ltb first j) (Some (edge_record_at t S (j - 1)).event) None
 
--- the same of a table's records
-abbrev pub state_broken : Reason → List ℕ → ℕ → ℕ → ℕ → Bool
-state_broken reason t S E s = state_breaks reason s (state_record_at t s) (entered t S E s)
+-- does a record of a table break a rule
+abbrev pub state_broken : (ℕ → StateRecord → Bool → Bool) → List ℕ → ℕ → ℕ → ℕ → Bool
+state_broken rule t S E s = rule s (state_record_at t s) (entered t S E s)
 
-abbrev pub edge_broken : Reason → List ℕ → ℕ → ℕ → ℕ → ℕ → Bool
-edge_broken reason t S first s j = edge_breaks reason S s (edge_record_at t S j) (prior t S first j)
+abbrev pub edge_broken : (ℕ → EdgeRecord → Option ℕ → Bool) → List ℕ → ℕ → ℕ → ℕ → ℕ → Bool
+edge_broken rule t S first s j = rule s (edge_record_at t S j) (prior t S first j)
 
-abbrev pub own_broken : Reason → List ℕ → ℕ → ℕ → ℕ → Bool
-own_broken reason t S s = edge_broken reason t S (first_edge t s) s
+abbrev pub own_broken : (ℕ → EdgeRecord → Option ℕ → Bool) → List ℕ → ℕ → ℕ → ℕ → Bool
+own_broken rule t S s = edge_broken rule t S (first_edge t s) s
 
--- the first of `count` edges from edge `first` on that breaks the rule, as edges of state s
-abbrev pub own_fault : Reason → List ℕ → ℕ → ℕ → ℕ → ℕ → Option ℕ
-own_fault reason t S s first count = first_fault (edge_broken reason t S first s) (edge_place S) count first
+-- the first of `count` edges from edge `first` on that breaks a rule, as edges of state s
+abbrev pub own_fault : (ℕ → EdgeRecord → Option ℕ → Bool) → List ℕ → ℕ → ℕ → ℕ → ℕ → Option ℕ
+own_fault rule t S s first count = first_fault (edge_broken rule t S first s) (edge_place S) count first
 
 pub record EnteredAre (t : List ℕ) (S n : ℕ) (r : List Bool) : Type 0 where
   pub size : length r ≡ most_states
@@ -75,10 +75,10 @@ abbrev pub HoldsEdges : List ℕ → ℕ → ℕ → Type 0
 HoldsEdges t S n = edge_place S n ≤ length t
 
 abbrev pub StatesRight : List ℕ → ℕ → ℕ → Type 0
-StatesRight t S E = (reason : Reason) → state_fault (state_broken reason t S E) S ≡ None
+StatesRight t S E = (reason : Reason) → state_fault (state_broken (state_breaks reason) t S E) S ≡ None
 
 pub record OwnRight (t : List ℕ) (S s first count : ℕ) (r : List Bool) : Type 0 where
-  pub none_at : (reason : Reason) → own_fault reason t S s first count ≡ None
+  pub none_at : (reason : Reason) → own_fault (edge_breaks reason S) t S s first count ≡ None
   pub entered : EnteredAre t S (first + count) r
 
 -- what a refusal says, or what is judged next

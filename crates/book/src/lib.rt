@@ -1,19 +1,20 @@
 // A book is checked, refusals 1 to 13 in their order; and what the compile asks of a book.
 #![tactic(auto)]
 
-ghost use Rattle.std.specs.Prelude.{◌≡◌, true, false, ℕ, List, ◌+◌, ◌-◌, ◌≤◌, ◌<◌, length};
+ghost use Rattle.std.specs.Prelude.{◌≡◌, Bool, true, false, not, ℕ, List, Option, ◌+◌, ◌-◌, ◌≤◌, ◌<◌, length};
 ghost use Rattle.meaning.specs.Book.{look, outs, marks};
 ghost use Rattle.meaning.specs.Answer.{Answer, judged, faulty};
 ghost use Rattle.meaning.specs.Refusal.{number};
 ghost use Rattle.meaning.specs.declared.Reason.{Reason};
 ghost use Rattle.wire.specs.Little.{NumberIs};
-ghost use Rattle.book.specs.Form.{trailer_at, trailer_of, letters_right, table_at};
+ghost use Rattle.book.specs.Form.{trailer_at, trailer_of, SB, letters_right, table_at};
 ghost use Rattle.book.specs.Form.{state_record_at, edge_record_at};
 ghost use Rattle.book.specs.declared.EdgeRecord.{EdgeRecord};
 ghost use Rattle.book.specs.Model.{first_edge, edges_from, table_book, firsts_of, RiseFrom, Rising, lead_of};
 ghost use Rattle.book.specs.Rules.{state_fault, edge_fault, trailer_rules, table_rules, check_book, told};
+ghost use Rattle.book.specs.Rules.{spare_right, astray, unentered, dead_end};
 ghost use Rattle.book.specs.Reads.{StateIs, EdgeIs, refused_or, state_breaks, edge_breaks};
-ghost use Rattle.book.specs.Reads.{state_broken, own_broken, own_fault, prior, EnteredAre};
+ghost use Rattle.book.specs.Reads.{state_broken, own_broken, own_fault, not_after, EnteredAre};
 ghost use Rattle.book.specs.Reads.{HoldsStates, HoldsEdges, StatesRight, OwnRight};
 
 use meaning::{Reason, Refusal};
@@ -77,12 +78,12 @@ fn trailer_of(book: &[u8]) -> Trailer
     }
 }
 
-fn has_letters(book: &[u8], letters: [u8; 2]) -> bool
-    ensures { result ≡ letters_right letters book.now }
+// Whether a book that has a trailer ends with the letters.
+fn has_letters(book: &[u8]) -> bool
+    requires { 12 ≤ length book.now }
+    ensures { result ≡ letters_right SB book.now }
 {
-    let at = trailer_at(book) + 10;
-    wire::byte_at(book, at) == usize::from(letters[0])
-        && wire::byte_at(book, at + 1) == usize::from(letters[1])
+    book.ends_with(&SB)
 }
 
 // Where the state table starts: all before it is a maker's note.
@@ -94,16 +95,18 @@ pub fn table_at(book: &[u8]) -> usize
 
 // ---- refusals 1 to 6: on the trailer's numbers alone
 
-fn check_trailer(n: usize, letters: bool, t: Trailer) -> Result<(), Refusal>
-    ensures { (x : Answer) → refused_or result x ≡ judged (trailer_rules n letters t) x }
+fn check_trailer(book: &[u8], t: Trailer) -> Result<(), Refusal>
+    ensures { (x : Answer) → refused_or result x
+        ≡ judged (trailer_rules (length book.now) (letters_right SB book.now) t) x }
 {
+    let n = book.len();
     if n < 12 {
         return Err(Reason::Short.into());
     }
     if 65536 < n {
         return Err(Reason::Long.into());
     }
-    if !letters {
+    if !has_letters(book) {
         return Err(Reason::Letters.into());
     }
     if t.form != 1 {
@@ -120,53 +123,59 @@ fn check_trailer(n: usize, letters: bool, t: Trailer) -> Result<(), Refusal>
 
 // ---- refusals 7 to 13: does a record break the rule
 
-// State s, with its record, and whether an edge leads into it. States are asked for Spare, Entry and Exit.
-fn state_breaks(reason: Reason, s: usize, x: StateRecord, edge_in: bool) -> bool
-    ensures { result ≡ state_breaks reason s x edge_in }
+// 7: the byte beside the mark, or beside the event, is not 0.
+fn spare(byte: usize) -> bool
+    ensures { result ≡ not (spare_right byte) }
 {
-    match reason {
-        Reason::Spare => x.spare != 0,
-        Reason::Entry => s != 0 && !edge_in,
-        _ => s != 0 && x.mark == 0 && x.count == 0,
-    }
+    byte != 0
 }
 
-// An edge of state s, with its record and the event of the edge before it in the same state. Edges are asked for Spare,
-// Order and Target.
-fn edge_breaks(
-    reason: Reason,
-    states: usize,
-    s: usize,
-    e: EdgeRecord,
-    before: Option<usize>,
-) -> bool
-    ensures { result ≡ edge_breaks reason states s e before }
+// 9: the edge's event is not above the event of the edge before it in the same state.
+fn not_after(e: EdgeRecord, before: Option<usize>) -> bool
+    ensures { result ≡ not_after e before }
 {
-    match reason {
-        Reason::Spare => e.spare != 0,
-        Reason::Order => before.is_some_and(|event| e.event <= event),
-        _ => e.target <= s || states <= e.target,
-    }
+    before.is_some_and(|event| e.event <= event)
 }
 
-// The state, or the edge, breaks no rule. (kept as two: each asks its own rules of its own record.)
+// 10: the edge of state s leads to no state above s, of so many states.
+fn astray(states: usize, s: usize, e: EdgeRecord) -> bool
+    ensures { result ≡ astray states s e }
+{
+    e.target <= s || states <= e.target
+}
+
+// 12: no edge leads into state s.
+fn unentered(s: usize, edge_in: bool) -> bool
+    ensures { result ≡ unentered s edge_in }
+{
+    s != 0 && !edge_in
+}
+
+// 13: state s has no mark and no edge.
+fn dead_end(s: usize, x: StateRecord) -> bool
+    ensures { result ≡ dead_end s x }
+{
+    s != 0 && x.mark == 0 && x.count == 0
+}
+
+// State s breaks no rule of states; an edge of state s breaks no rule of edges. Two functions, as each asks its own
+// rules of its own record.
 fn state_right(s: usize, x: StateRecord, edge_in: bool) -> bool
     ensures { result ≡ true → (reason : Reason) → state_breaks reason s x edge_in ≡ false }
 {
-    !state_breaks(Reason::Spare, s, x, edge_in)
-        && !state_breaks(Reason::Entry, s, x, edge_in)
-        && !state_breaks(Reason::Exit, s, x, edge_in)
+    !spare(x.spare) && !unentered(s, edge_in) && !dead_end(s, x)
 }
 
 fn edge_right(states: usize, s: usize, e: EdgeRecord, before: Option<usize>) -> bool
     ensures { result ≡ true → (reason : Reason) → edge_breaks reason states s e before ≡ false }
 {
-    !edge_breaks(Reason::Spare, states, s, e, before)
-        && !edge_breaks(Reason::Order, states, s, e, before)
-        && !edge_breaks(Reason::Target, states, s, e, before)
+    !spare(e.spare) && !not_after(e, before) && !astray(states, s, e)
 }
 
 // ---- a table's records
+
+// Their numbers come as `usize` with their bound, as `wire` promises them: in a narrower type each would be widened
+// again where it is an index or is added.
 
 impl Table<'_> {
     // The record of state s.
@@ -216,8 +225,8 @@ impl Table<'_> {
         self.edge_at(j).target
     }
 
-    // The same for records that are among the bytes, read without a test. (kept beside the above: by these the check of a
-    // sound book takes 0.45 to 0.69 of plain C's time, where it took 2.4 to 2.9.)
+    // The same for records that are among the bytes, as those of a sound book are: read without a test. By these the
+    // check of a sound book takes 0.45 to 0.69 of plain C's time.
     fn held_state(self, s: usize) -> StateRecord
         requires { HoldsStates self.bytes.now (s + 1) }
         ensures { StateIs (state_record_at self.entry.bytes.now s) result }
@@ -261,7 +270,8 @@ impl Table<'_> {
         r
     }
 
-    // The sum of the states' edge counts. (kept as a loop: `sum` asks for a bound on the sum, which a chain does not know.)
+    // The sum of the states' edge counts. A loop: `sum` is proved to fit by a bound on every partial sum of every run
+    // of its chain, and that was tried and stayed open.
     fn count_sum(self) -> usize
         requires { self.states ≤ 512 }
         ensures { result ≡ first_edge self.entry.bytes.now self.entry.states }
@@ -273,21 +283,24 @@ impl Table<'_> {
         sum
     }
 
-    // Refused at the first of the states that breaks the rule. (In line, as the two below: each call then asks its own rule
-    // alone.)
-    #[inline(always)]
-    fn check_states(
+    // Refused at the first of the states that breaks a rule: the caller's function, of a state, its record, and whether
+    // an edge leads into it.
+    fn check_states<F: Fn(usize, StateRecord, bool) -> bool>(
         self,
         reason: Reason,
-        edges: usize,
         entered: &[bool; 512],
+        breaks: F,
     ) -> Result<(), Refusal>
-        requires { (self.states ≤ 512) × EnteredAre self.bytes.now self.states edges entered.now }
-        ensures { (x : Answer) → refused_or result x ≡ faulty (number reason)
-            (state_fault (state_broken reason self.entry.bytes.now self.entry.states edges) self.entry.states) x }
+        requires few { self.states ≤ 512 }
+        requires asked { (s : ℕ) (x : StateRecord) (edge_in : Bool) → F.pre breaks s x edge_in }
+        ensures { (rule : ℕ → StateRecord → Bool → Bool)
+            → ((s : ℕ) (x : StateRecord) (edge_in b : Bool) → F.post breaks s x edge_in b → b ≡ rule s x edge_in)
+            → (E : ℕ) → EnteredAre self.entry.bytes.now self.entry.states E entered.now
+            → (x : Answer) → refused_or result x ≡ faulty (number reason)
+            (state_fault (state_broken rule self.entry.bytes.now self.entry.states E) self.entry.states) x }
     {
         for s in 0..self.states {
-            if state_breaks(reason, s, self.state_at(s), entered[s]) {
+            if breaks(s, self.state_at(s), entered[s]) {
                 return Err(Refusal {
                     reason,
                     place: (4 * s) as u32,
@@ -297,17 +310,28 @@ impl Table<'_> {
         Ok(())
     }
 
-    // Refused at the first of one state's edges, `count` from edge `first` on, that breaks the rule.
-    #[inline(always)]
-    fn check_own(self, reason: Reason, s: usize, first: usize, count: usize) -> Result<(), Refusal>
-        requires { (self.states ≤ 512) × (first + count ≤ 1000000000) }
-        ensures { (x : Answer) → refused_or result x ≡ faulty (number reason)
-            (own_fault reason self.entry.bytes.now self.entry.states s first count) x }
+    // Refused at the first of one state's edges, `count` from edge `first` on, that breaks a rule: of the state, an
+    // edge's record, and the event of the edge before it in the same state.
+    fn check_own<F: Fn(usize, EdgeRecord, Option<usize>) -> bool>(
+        self,
+        reason: Reason,
+        s: usize,
+        first: usize,
+        count: usize,
+        breaks: &F,
+    ) -> Result<(), Refusal>
+        requires few { (self.states ≤ 512) × (first + count ≤ 1000000000) }
+        requires asked { (s : ℕ) (e : EdgeRecord) (before : Option ℕ) → F.pre breaks.now s e before }
+        ensures { (rule : ℕ → EdgeRecord → Option ℕ → Bool)
+            → ((s : ℕ) (e : EdgeRecord) (before : Option ℕ) (b : Bool) → F.post breaks.now s e before b
+            → b ≡ rule s e before)
+            → (x : Answer) → refused_or result x ≡ faulty (number reason)
+            (own_fault rule self.entry.bytes.now self.entry.states s first count) x }
     {
         let mut before = None;
         for j in first..first + count {
             let e = self.edge_at(j);
-            if edge_breaks(reason, self.states, s, e, before) {
+            if breaks(s, e, before) {
                 return Err(Refusal {
                     reason,
                     place: (4 * self.states + 4 * j) as u32,
@@ -318,17 +342,25 @@ impl Table<'_> {
         Ok(())
     }
 
-    // Refused at the first of all states' edges that breaks the rule, each as an edge of its state.
-    #[inline(always)]
-    fn check_edges(self, reason: Reason) -> Result<(), Refusal>
-        requires { self.states ≤ 512 }
-        ensures { (x : Answer) → refused_or result x ≡ faulty (number reason)
-            (edge_fault (own_broken reason self.entry.bytes.now self.entry.states) self.entry.bytes.now self.entry.states) x }
+    // Refused at the first of all states' edges that breaks a rule, each as an edge of its state.
+    fn check_edges<F: Fn(usize, EdgeRecord, Option<usize>) -> bool>(
+        self,
+        reason: Reason,
+        breaks: F,
+    ) -> Result<(), Refusal>
+        requires few { self.states ≤ 512 }
+        requires asked { (s : ℕ) (e : EdgeRecord) (before : Option ℕ) → F.pre breaks s e before }
+        ensures { (rule : ℕ → EdgeRecord → Option ℕ → Bool)
+            → ((s : ℕ) (e : EdgeRecord) (before : Option ℕ) (b : Bool) → F.post breaks s e before b
+            → b ≡ rule s e before)
+            → (x : Answer) → refused_or result x ≡ faulty (number reason)
+            (edge_fault (own_broken rule self.entry.bytes.now self.entry.states)
+            self.entry.bytes.now self.entry.states) x }
     {
         let mut first = 0;
         for s in 0..self.states {
             let count = self.state_at(s).count;
-            self.check_own(reason, s, first, count)?;
+            self.check_own(reason, s, first, count, &breaks)?;
             first += count;
         }
         Ok(())
@@ -337,26 +369,29 @@ impl Table<'_> {
     // The zero bytes are those of the states, then those of all edges that the trailer names.
     fn check(self, edges: usize) -> Result<(), Refusal>
         requires { (self.states ≤ 512) × (edges ≤ 2048) }
-        ensures { (x : Answer) → refused_or result x ≡ judged (table_rules self.entry.bytes.now self.entry.states edges) x }
+        ensures { (x : Answer) → refused_or result x
+            ≡ judged (table_rules self.entry.bytes.now self.entry.states edges) x }
     {
         let has = self.entered(edges);
-        self.check_states(Reason::Spare, edges, &has)?;
-        self.check_own(Reason::Spare, 0, 0, edges)?;
+        self.check_states(Reason::Spare, &has, |_, x, _| spare(x.spare))?;
+        self.check_own(Reason::Spare, 0, 0, edges, &|_, e, _| spare(e.spare))?;
         if self.count_sum() != edges {
             return Err(Reason::Sum.into());
         }
-        self.check_edges(Reason::Order)?;
-        self.check_edges(Reason::Target)?;
+        self.check_edges(Reason::Order, |_, e, before| not_after(e, before))?;
+        self.check_edges(Reason::Target, |s, e, _| astray(self.states, s, e))?;
         if self.state_at(0).mark != 0 {
             return Err(Reason::Start.into());
         }
-        self.check_states(Reason::Entry, edges, &has)?;
-        self.check_states(Reason::Exit, edges, &has)
+        self.check_states(Reason::Entry, &has, |s, _, edge_in| unentered(s, edge_in))?;
+        self.check_states(Reason::Exit, &has, |s, x, _| dead_end(s, x))
     }
 }
 
-// ---- refusals 7 to 13 at once: an accepted book is read by these alone (kept beside the check row by row, which tells the
-// first refusal but reads the records six times)
+// ---- refusals 7 to 13 at once: whether the table breaks any rule
+
+// A sound book is read by these alone, an edge once and a state twice. The check above reads the table anew for each
+// rule, as it has to tell the first refusal.
 
 impl Table<'_> {
     // The states break no rule.
@@ -393,8 +428,10 @@ impl Table<'_> {
 
     // The table breaks no rule.
     fn right(self, edges: usize) -> bool
-        requires { (0 < self.states) × (self.states ≤ 512) × (edges ≤ 2048) × HoldsEdges self.bytes.now self.states edges }
-        ensures { result ≡ true → (x : Answer) → judged (table_rules self.entry.bytes.now self.entry.states edges) x ≡ x }
+        requires { (0 < self.states) × (self.states ≤ 512) × (edges ≤ 2048)
+            × HoldsEdges self.bytes.now self.states edges }
+        ensures { result ≡ true
+            → (x : Answer) → judged (table_rules self.entry.bytes.now self.entry.states edges) x ≡ x }
     {
         let mut entered = [false; 512];
         let mut first = 0;
@@ -416,8 +453,7 @@ pub fn check_book(book: &[u8]) -> Result<Counts, Refusal>
     ensures { told result ≡ check_book book.now }
 {
     let t = trailer_of(book);
-    let letters = has_letters(book, SB);
-    check_trailer(book.len(), letters, t)?;
+    check_trailer(book, t)?;
     let counts = Counts {
         states: t.states,
         edges: t.edges,
@@ -457,10 +493,10 @@ fn seek<F: Fn(usize) -> EdgeRecord>(
     None
 }
 
-// Where the event leads by one of `count` edges from edge `first` on, whose events rise, by halving. Among `count` bytes
-// that rise an event stands from event + count - 256 to event. (kept as a loop: the library halves a slice, and these
-// records are bytes. kept a function of the bytes: of a parameter's bytes a proof knows that they are below 256, of a
-// field's it does not.)
+// Where the event leads by one of `count` edges from edge `first` on, whose events rise, by halving. Among `count`
+// bytes that rise an event stands from event + count - 256 to event. It is a loop, as the search starts in that window
+// and the records lie in bytes (for the other two halvings see `edge_of` in `compile`). It takes the bytes, as a proof
+// knows of a parameter's bytes that they are below 256, and of a field's it does not.
 fn halve(bytes: &[u8], states: usize, first: usize, count: usize, event: usize) -> Option<usize>
     requires { (first + count ≤ 1000000000) × HoldsEdges bytes.now states (first + count)
         × RiseFrom bytes.now states count first }
@@ -525,7 +561,8 @@ impl Table<'_> {
         r
     }
 
-    // Where the event leads from state q, whose first edge is listed: as in the book, where `first` is what `firsts` gives.
+    // Where the event leads from state q, whose first edge is listed: as in the book, where `first` is what `firsts`
+    // gives.
     pub fn lead(self, first: &[u16; 512], q: usize, event: usize) -> Option<usize>
         ensures { result ≡ lead_of self.entry.bytes.now self.entry.states first.now q event }
     {
@@ -533,8 +570,8 @@ impl Table<'_> {
         seek(|j| self.edge_at(j), from, self.count_of(q), event)
     }
 
-    // The same for a state whose events rise, as they do in an accepted book: edges that are among the bytes, as its edges
-    // are, are read without a test, and many are searched by halving.
+    // The same for a state whose events rise, as they do in an accepted book: edges that are among the bytes, as its
+    // edges are, are read without a test, and many are searched by halving.
     pub fn lead_rising(self, first: &[u16; 512], q: usize, event: usize) -> Option<usize>
         requires { Rising self.bytes.now self.states first.now q }
         ensures { result ≡ lead_of self.entry.bytes.now self.entry.states first.now q event }

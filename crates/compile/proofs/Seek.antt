@@ -20,6 +20,7 @@ use Rattle.meaning.proofs.Rules.{whole-rule}
 use Rattle.compile.specs.Work.{Rows, Down, chain_of, Latest, Held, Fit}
 use Rattle.compile.specs.Explore.{Key, whole, rest_after, Seen, IsSeen, Settled, FoundAt, NotFound, Finds}
 use Rattle.compile.proofs.Rows.{chain-zero, chain_cons}
+use Rattle.compile.proofs.Same.{asked}
 
 cons_nil : {A : Type 0} {x : Live} {c : Chain} → x ∷ c ≡ [] → A
 cons_nil {x = x} {c = c} e = let z : ◌≡◌ {A = ℕ} 0 1 = cc in absurd (let w : ⊥ = omega arith in w)
@@ -232,29 +233,26 @@ module _ (key : Key) (δ : Delta) (R : Rule key δ) (newest earlier : List ℕ) 
 stays : Delta
 stays q a = None
 
-abbrev same : Rows → ℕ → ℕ → ℕ → ℕ → Bool
-same w q r f p = same_chain (chain_of w p) (live q r ∷ chain_of w f)
-
 module _ {newest earlier : List ℕ} {w : Rows} {n : ℕ} (F : Fit newest earlier w n) where
   pub seek_from : {q r f p : ℕ} → p ≡ get_or newest q 0 → q < 512 → Seek whole w n q r f p
   seek_from {q} {r} {f} {p} =
-      seek_start whole stays (whole-rule stays) newest earlier w n F q r f (same w q r f) (whole_tests w n q r f) p
+      seek_start whole stays (whole-rule stays) newest earlier w n F q r f (λ p. asked w p q r f) (whole_tests w n q r f) p
 
   pub seek_on : {q r f p e : ℕ} {t : Bool} → e ≡ get_or earlier p 0 → p ≢ 0 → Seek whole w n q r f p
-      → t ≡ same w q r f p → t ≡ false → Seek whole w n q r f e
+      → t ≡ asked w p q r f → t ≡ false → Seek whole w n q r f e
   seek_on {q} {r} {f} {p} {e} g z S h i =
-      seek-next whole stays (whole-rule stays) newest earlier w n F q r f (same w q r f) (whole_tests w n q r f) p e g z S
+      seek-next whole stays (whole-rule stays) newest earlier w n F q r f (λ p. asked w p q r f) (whole_tests w n q r f) p e g z S
       (sym h ∙ i)
 
-  pub seek_found : {q r f p : ℕ} {t : Bool} → p ≢ 0 → Seek whole w n q r f p → t ≡ same w q r f p → t ≡ true
+  pub seek_found : {q r f p : ℕ} {t : Bool} → p ≢ 0 → Seek whole w n q r f p → t ≡ asked w p q r f → t ≡ true
       → FoundAt whole w n q r f p
   seek_found {q} {r} {f} {p} z S h i =
-      seek_hit whole stays (whole-rule stays) newest earlier w n F q r f (same w q r f) (whole_tests w n q r f) p z S
+      seek_hit whole stays (whole-rule stays) newest earlier w n F q r f (λ p. asked w p q r f) (whole_tests w n q r f) p z S
       (sym h ∙ i)
 
   pub seek_none : {q r f p : ℕ} → p ≡ 0 → Seek whole w n q r f p → NotFound whole w n q r f
   seek_none {q} {r} {f} {p} =
-      seek_end whole stays (whole-rule stays) newest earlier w n F q r f (same w q r f) (whole_tests w n q r f) p
+      seek_end whole stays (whole-rule stays) newest earlier w n F q r f (λ p. asked w p q r f) (whole_tests w n q r f) p
 
   pub settled_in : {q r f : ℕ} {seen : List Bool} → q < 512 → get_or seen q false ≡ true → Settled whole w n q r f seen f seen
   settled_in {q} {r} {f} {seen} s = settle_in whole stays (whole-rule stays) newest earlier w n F seen q r f s

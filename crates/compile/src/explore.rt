@@ -1,15 +1,12 @@
-// The places of a book, explored breadth first. No edges are kept: where an edge leads is found again when it is written.
-ghost use Rattle.std.specs.Prelude.{◌≡◌, true, [], ◌+◌, ◌≤◌, ◌<◌, get_or, Some};
-ghost use Rattle.meaning.specs.Chain.{step};
-ghost use Rattle.meaning.specs.Places.{meet, opened};
-ghost use Rattle.meaning.specs.Book.{delta, outs};
-ghost use Rattle.book.specs.Form.{edge_record_at};
-ghost use Rattle.compile.specs.Held.{source_book, rows_of, chain_at, chains_in};
-ghost use Rattle.compile.specs.Explore.{Seen, RestAt, RestMet, Grown, LeadAt, Neither, RestAlike, EdgeAlike, Alike};
-ghost use Rattle.compile.specs.Explore.{Opened, Explored};
+// The places of a book, explored breadth first. No edges are kept: where an edge leads is found again when it is
+// written.
+ghost use Rattle.std.specs.Prelude.{◌≡◌, true, ◌+◌, ◌≤◌, ◌<◌};
+ghost use Rattle.meaning.specs.Book.{delta};
+ghost use Rattle.compile.specs.Held.{source_book};
+ghost use Rattle.compile.specs.Explore.{Neither};
 
 use crate::source::Source;
-use crate::work::{Places, nothing_seen};
+use crate::work::{Chain, Places, nothing_seen};
 use book::EdgeRecord;
 use meaning::Refusal;
 
@@ -20,58 +17,11 @@ struct Lead {
     to: usize,
 }
 
-// The first place below p in its chain from whose head the event leads on.
-fn leading(source: &Source, places: &Places, p: usize, event: usize) -> Option<Lead>
-    requires { p < 1024 }
-    ensures { LeadAt (delta (source_book source.now)) (rows_of places.now) p event result }
-{
-    let mut f = p;
-    while f != 0 {
-        f = places.fallback(f);
-        if let Some(to) = source.led(places.head(f), event) {
-            return Some(Lead { place: f, to });
-        }
-    }
-    None
-}
-
-// The place of what the event makes of the rest of the chain of p. A chain has at most 511 members, so the calls are at most
-// 511 deep: some 180 bytes of stack each, 90 KB in all.
-fn rest_place(
-    source: &Source,
-    places: &Places,
-    p: usize,
-    event: usize,
-    seen: &mut [bool; 512],
-) -> usize
-    requires { (p < places.now.count) × Seen seen.old [] }
-    ensures { RestAt (source_book source.now) (rows_of places.now) places.now.count p event result seen.new }
-{
-    let Some(lead) = leading(source, places, p, event) else {
-        return 0;
-    };
-    let rest = rest_place(source, places, lead.place, event, seen);
-    let level = places.level(lead.place);
-    places.settle(lead.to, level + 1, rest, seen)
-}
-
-// The chain of the place p after the event, which leads from its head to the state q, is met.
-fn meet_edge(
-    source: &Source,
-    places: &mut Places,
-    p: usize,
-    event: usize,
-    q: usize,
-) -> Result<(), Refusal>
-    requires { (p < places.old.count) × RestMet (source_book source.now) (rows_of places.old) places.old.count p event
-        × (delta (source_book source.now) (get_or (rows_of places.old).heads p 0) event ≡ Some q) }
-    ensures { Grown (rows_of places.new) places.new.count
-        (meet (step (delta (source_book source.now)) (chain_at places.old p) event) (chains_in places.old)) result }
-{
-    let mut seen = nothing_seen();
-    let rest = rest_place(source, places, p, event, &mut seen);
-    let level = places.level(p);
-    places.add(q, level + 1, rest, &seen)
+// The exploration of a book, and the places found so far.
+#[derive(Drop)]
+pub(crate) struct Exploration<'a> {
+    pub(crate) source: &'a Source<'a>,
+    pub(crate) places: Places,
 }
 
 // Whether none of `count` edges from edge from on has one of the events.
@@ -79,6 +29,7 @@ fn neither(source: &Source, from: usize, count: usize, a: usize, b: usize) -> bo
     requires { from + count ≤ 1000000000 }
     ensures { result ≡ true → Neither source.now.table.bytes.now source.now.table.states count from a b }
 {
+    // A `for`: with `.all` over the range the proof of what is returned (`returns`) stayed open.
     for j in from..from + count {
         let event = source.event(j);
         if event == a || event == b {
@@ -101,87 +52,145 @@ fn leads_alike(source: &Source, q: usize, a: usize, b: usize) -> bool
     source.led(q, a) == source.led(q, b)
 }
 
-// Whether every state of the chain of p but its head, and the start, leads by the event a to where it leads by b.
-fn alike(source: &Source, places: &Places, p: usize, a: usize, b: usize) -> bool
-    requires { p < 1024 }
-    ensures { result ≡ true
-        → RestAlike (delta (source_book source.now)) (rows_of places.now) p a b }
-{
-    let mut f = p;
-    while f != 0 {
-        let next = places.fallback(f);
-        let head = places.head(next);
-        if !leads_alike(source, head, a, b) {
-            return false;
+impl<'a> Exploration<'a> {
+    ghost use Rattle.std.specs.Prelude.{◌≡◌, true, [], ◌<◌, get_or, Some};
+    ghost use Rattle.meaning.specs.Chain.{step};
+    ghost use Rattle.meaning.specs.Places.{meet, opened};
+    ghost use Rattle.meaning.specs.Book.{delta, outs};
+    ghost use Rattle.compile.specs.Explore.{Seen, RestAt, RestMet, Grown, LeadAt, RestAlike, EdgeAlike, Alike, Opened};
+    ghost use Rattle.compile.specs.Explore.{Explored};
+    ghost use Rattle.compile.specs.Exploring.{book_of, rows_in, count_of, chain_in, list_in};
+
+    // The first place below p in its chain from whose head the event leads on.
+    fn leading(&self, p: usize, event: usize) -> Option<Lead>
+        requires { p < 1024 }
+        ensures { LeadAt (delta (book_of self.now)) (rows_in self.now) p event result }
+    {
+        let mut f = p;
+        // A `while`, here and in `alike`, as each place is had from the one before.
+        while f != 0 {
+            f = self.places.fallback(f);
+            if let Some(to) = self.source.led(self.places.head(f), event) {
+                return Some(Lead { place: f, to });
+            }
         }
-        f = next;
+        None
     }
-    true
-}
 
-// Whether edge k leads to where the edge does, and its event from the other states of the chain of p to where the edge's
-// event leads. The targets are compared first, as few are equal.
-fn edge_alike(source: &Source, places: &Places, p: usize, edge: EdgeRecord, k: usize) -> bool
-    requires { p < 1024 }
-    ensures { result ≡ true → EdgeAlike source.now.table.bytes.now source.now.table.states
-        (rows_of places.now) p edge.event edge.target k }
-{
-    source.target(k) == edge.target && alike(source, places, p, source.event(k), edge.event)
-}
+    // The place of what the event makes of the rest of the chain of p. A chain has at most 511 members, so the calls
+    // are at most 511 deep: some 180 bytes of stack each, 90 KB in all.
+    fn rest_place(&self, p: usize, event: usize, seen: &mut [bool; 512]) -> usize
+        requires { (p < count_of self.now) × Seen seen.old [] }
+        ensures { RestAt (book_of self.now) (rows_in self.now) (count_of self.now) p event result seen.new }
+    {
+        let Some(lead) = self.leading(p, event) else {
+            return 0;
+        };
+        let rest = self.rest_place(lead.place, event, seen);
+        let level = self.places.level(lead.place);
+        let chain = Chain {
+            head: lead.to,
+            level: level + 1,
+            fallback: rest,
+        };
+        self.places.settle(chain, seen)
+    }
 
-// Whether one of the three edges before edge j, from edge from on, leads from every state of the chain of p to where the
-// edge does.
-fn met_before(
-    source: &Source,
-    places: &Places,
-    p: usize,
-    edge: EdgeRecord,
-    from: usize,
-    j: usize,
-) -> bool
-    requires { p < 1024 }
-    ensures { result ≡ true → Alike source.now.table.bytes.now source.now.table.states
-        (rows_of places.now) p edge.event edge.target from j }
-{
-    (from.max(j.saturating_sub(3))..j).any(|k| edge_alike(source, places, p, edge, k))
-}
+    // The chain of the place p after the event, which leads from its head to the state q, is met.
+    fn meet_edge(&mut self, p: usize, event: usize, q: usize) -> Result<(), Refusal>
+        requires { (p < count_of self.old) × RestMet (book_of self.old) (rows_in self.old) (count_of self.old) p event
+            × (delta (book_of self.old) (get_or (rows_in self.old).heads p 0) event ≡ Some q) }
+        ensures grown { Grown (rows_in self.new) (count_of self.new)
+            (meet (step (delta (book_of self.old)) (chain_in self.old p) event) (list_in self.old)) result }
+        ensures same_source { self.new.source ≡ self.old.source }
+    {
+        let mut seen = nothing_seen();
+        let rest = self.rest_place(p, event, &mut seen);
+        let level = self.places.level(p);
+        let chain = Chain {
+            head: q,
+            level: level + 1,
+            fallback: rest,
+        };
+        self.places.add(chain, &seen)
+    }
 
-// The place p is opened: the chains after the events of its head's edges are met, in their order. After an event that leads as
-// an earlier one does the chain was met before. Such events are looked for until eight are not: a look may go down the whole
-// chain, in vain.
-fn open_place(source: &Source, places: &mut Places, p: usize) -> Result<(), Refusal>
-    requires { (p < places.old.count)
-        × Opened (delta (source_book source.now)) (outs (source_book source.now)) p (chains_in places.old) }
-    ensures { Grown (rows_of places.new) places.new.count
-        (opened (delta (source_book source.now)) (outs (source_book source.now)) p (chains_in places.old)) result }
-{
-    let head = places.head(p);
-    let from = source.first_edge(head);
-    let mut tries: usize = 8;
-    for j in from..from + source.count(head) {
-        let edge = source.edge(j);
-        if 0 < tries && met_before(source, places, p, edge, from, j) {
-            continue;
+    // Whether every state of the chain of p but its head, and the start, leads by the event a to where it leads by b.
+    fn alike(&self, p: usize, a: usize, b: usize) -> bool
+        requires { p < 1024 }
+        ensures { result ≡ true
+            → RestAlike (delta (book_of self.now)) (rows_in self.now) p a b }
+    {
+        let mut f = p;
+        while f != 0 {
+            let next = self.places.fallback(f);
+            let head = self.places.head(next);
+            if !leads_alike(self.source, head, a, b) {
+                return false;
+            }
+            f = next;
         }
-        tries = tries.saturating_sub(1);
-        meet_edge(source, places, p, edge.event, edge.target)?;
+        true
     }
-    Ok(())
-}
 
-// The places of the book are found: the number of their edges. The search goes on however many edges there are, as too many
-// places are refused first.
-pub(crate) fn explore(source: &Source, places: &mut Places) -> Result<usize, Refusal>
-    requires { places.old.count ≡ 1 }
-    ensures { Explored (source_book source.now) (rows_of places.new) places.new.count result }
-{
-    let mut edges = 0;
-    let mut p = 0;
-    // kept: a `for` would end at the places of its start, and each that is opened may add some
-    while p < places.count() {
-        edges += source.count(places.head(p));
-        open_place(source, places, p)?;
-        p += 1;
+    // Whether edge k leads to where the edge does, and its event from the other states of the chain of p to where the
+    // edge's event leads. The targets are compared first, as few are equal.
+    fn edge_alike(&self, p: usize, edge: EdgeRecord, k: usize) -> bool
+        requires { p < 1024 }
+        ensures { result ≡ true → EdgeAlike self.now.source.now.table.bytes.now self.now.source.now.table.states
+            (rows_in self.now) p edge.event edge.target k }
+    {
+        self.source.target(k) == edge.target && self.alike(p, self.source.event(k), edge.event)
     }
-    Ok(edges)
+
+    // Whether one of the three edges before edge j, from edge from on, leads from every state of the chain of p to
+    // where the edge does.
+    fn met_before(&self, p: usize, edge: EdgeRecord, from: usize, j: usize) -> bool
+        requires { p < 1024 }
+        ensures { result ≡ true → Alike self.now.source.now.table.bytes.now self.now.source.now.table.states
+            (rows_in self.now) p edge.event edge.target from j }
+    {
+        (from.max(j.saturating_sub(3))..j).any(|k| self.edge_alike(p, edge, k))
+    }
+
+    // The place p is opened: the chains after the events of its head's edges are met, in their order. After an event
+    // that leads as an earlier one does the chain was met before. Such events are looked for until eight are not: a
+    // look may go down the whole chain, in vain.
+    fn open_place(&mut self, p: usize) -> Result<(), Refusal>
+        requires { (p < count_of self.old)
+            × Opened (delta (book_of self.old)) (outs (book_of self.old)) p (list_in self.old) }
+        ensures grown { Grown (rows_in self.new) (count_of self.new)
+            (opened (delta (book_of self.old)) (outs (book_of self.old)) p (list_in self.old)) result }
+        ensures same_source { self.new.source ≡ self.old.source }
+    {
+        let head = self.places.head(p);
+        let from = self.source.first_edge(head);
+        let mut tries: usize = 8;
+        for j in from..from + self.source.count(head) {
+            let edge = self.source.edge(j);
+            if 0 < tries && self.met_before(p, edge, from, j) {
+                continue;
+            }
+            tries = tries.saturating_sub(1);
+            self.meet_edge(p, edge.event, edge.target)?;
+        }
+        Ok(())
+    }
+
+    // The places of the book are found: the number of their edges. The search goes on however many edges there are, as
+    // too many places are refused first.
+    pub(crate) fn explore(&mut self) -> Result<usize, Refusal>
+        requires { count_of self.old ≡ 1 }
+        ensures { Explored (book_of self.old) (rows_in self.new) (count_of self.new) result }
+    {
+        let mut edges = 0;
+        let mut p = 0;
+        // A `while`, as places are added while they are opened.
+        while p < self.places.count() {
+            edges += self.source.count(self.places.head(p));
+            self.open_place(p)?;
+            p += 1;
+        }
+        Ok(edges)
+    }
 }

@@ -1,5 +1,5 @@
-// The compile: a book's image into lent memory, or the refusal that the book deserves. The places are found first and written
-// afterwards, so that a refusal leaves the memory as it was.
+// The compile: a book's image into lent memory, or the refusal that the book deserves. The places are found first and
+// written afterwards, so that a refusal leaves the memory as it was.
 #![tactic(auto)]
 
 mod explore;
@@ -14,7 +14,7 @@ ghost use Rattle.compile.specs.Explore.{Ready};
 ghost use Rattle.compile.specs.Write.{Makes};
 
 use book::Table;
-use explore::explore;
+use explore::Exploration;
 use meaning::{Reason, Refusal};
 use source::Source;
 use work::Places;
@@ -34,25 +34,28 @@ fn compile_table(table: Table, out: &mut [u8]) -> Result<Made, Refusal>
     ensures { Makes (table_book table.entry.bytes.now table.entry.states) out.old out.new (told result) }
 {
     let source = Source::new(table);
-    let mut places = Places::new();
-    let edges = explore(&source, &mut places)?;
+    let mut found = Exploration {
+        source: &source,
+        places: Places::new(),
+    };
+    let edges = found.explore()?;
     if 4096 < edges {
         return Err(Reason::Edges.into());
     }
-    let length = 14 * places.count() + 4 * edges + 12;
+    let length = 14 * found.places.count() + 4 * edges + 12;
     if out.len() < length {
         return Err(Reason::Room.into());
     }
-    write_image(&source, &places, edges, out);
+    write_image(&source, &found.places, edges, out);
     Ok(Made {
         length,
-        places: places.count(),
+        places: found.places.count(),
         edges,
     })
 }
 
-// The image of a book, whatever its bytes: image length, places and edges; or refused, by the book's reasons, or for its
-// places, its edges or the room.
+// The image of a book, whatever its bytes: image length, places and edges; or refused, by the book's reasons, or for
+// its places, its edges or the room.
 pub fn compile(book: &[u8], out: &mut [u8]) -> Result<Made, Refusal>
     ensures answer { told result ≡ compile_answer book.now (length out.old) }
     ensures memory { out.new ≡ compile_memory book.now out.old }

@@ -1,5 +1,5 @@
-// The book that is compiled: its state table, and the number of each state's first edge. All that the compile asks of crate
-// `book` after its check is asked here.
+// The book that is compiled: its state table, and the number of each state's first edge. All that the compile asks of
+// crate `book` after its check is asked here.
 ghost use Rattle.compile.specs.Explore.{Ready};
 
 use book::{EdgeRecord, Table};
@@ -12,7 +12,7 @@ pub(crate) struct Source<'a> {
 }
 
 impl<'a> Source<'a> {
-    ghost use Rattle.std.specs.Prelude.{◌≡◌, ◌+◌, ◌<◌, length, get_or};
+    ghost use Rattle.std.specs.Prelude.{◌≡◌, ◌<◌, length, get_or};
     ghost use Rattle.wire.specs.Little.{NumberIs};
     ghost use Rattle.meaning.specs.Book.{delta, outs, marks};
     ghost use Rattle.book.specs.Form.{edge_record_at};

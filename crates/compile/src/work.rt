@@ -5,8 +5,9 @@ ghost use Rattle.compile.specs.Explore.{Seen};
 
 use meaning::{Reason, Refusal};
 
-// Of a place, with the earlier place of the same head. A chain is read from fallback to fallback, and none can be
-// read before the one above it is there: a row of 8 bytes is found by its number in one load, a longer one by a shift more.
+// What is known of a place, and the earlier place of the same head. A chain is read from fallback to fallback, and a
+// row only when the one before it has been read: a row of 8 bytes is found by its number in one load, a longer one by
+// a shift more.
 #[derive(Clone, Copy, Debug, PartialEq, Eq)]
 struct Row {
     head: u16,
@@ -22,9 +23,17 @@ const EMPTY: Row = Row {
     fallback: 0,
 };
 
-// `newest` is the newest place of each head.
-// kept: `newest` and `earlier` are 0 for none, as an Option would make a row longer than its 8 bytes. Place 0, whose chain is
-// empty, is in no head's list.
+// A chain that is not empty: the state at its head, its level, and the place of the rest of it.
+#[derive(Clone, Copy, Debug, PartialEq, Eq)]
+pub(crate) struct Chain {
+    pub(crate) head: usize,
+    pub(crate) level: usize,
+    pub(crate) fallback: usize,
+}
+
+// `newest` is the newest place of each head. Like `earlier` it is 0 for none: place 0, whose chain is empty, has no
+// head and ends each list of places. With an Option for `earlier` a row would be longer than its 8 bytes, and what
+// stands in `newest` becomes an `earlier`. Arrays with a count, as the library has no heap.
 #[derive(Drop)]
 pub(crate) struct Places {
     newest: [u16; 512],
@@ -78,20 +87,21 @@ impl Places {
         usize::from(self.rows[p].fallback)
     }
 
-    // Whether the chain of the place p is the state head with the level, and then the chain of the place rest: both
-    // chains are read to their ends.
-    fn same_chain(&self, p: usize, head: usize, level: usize, rest: usize) -> bool
-        requires { (0 < p) × (p < 1024) × (rest < 1024) }
-        ensures { result ≡ same_chain (chain_at self.now p) (live head level ∷ chain_at self.now rest) }
+    // Whether the place p is that of the chain: both are read to their ends.
+    fn same_chain(&self, p: usize, chain: Chain) -> bool
+        requires { (0 < p) × (p < 1024) × (chain.fallback < 1024) }
+        ensures { result
+            ≡ same_chain (chain_at self.now p) (live chain.head chain.level ∷ chain_at self.now chain.fallback) }
     {
-        if self.head(p) != head {
+        if self.head(p) != chain.head {
             return false;
         }
-        if self.level(p) != level {
+        if self.level(p) != chain.level {
             return false;
         }
         let mut a = self.fallback(p);
-        let mut b = rest;
+        let mut b = chain.fallback;
+        // A `while`, here and in `find`, as each place is had from the one before.
         while a != 0 {
             if b == 0 {
                 return false;
@@ -108,14 +118,14 @@ impl Places {
         b == 0
     }
 
-    // The place whose chain is the state head with the level, and then the chain of the place rest.
-    pub(crate) fn find(&self, head: usize, level: usize, rest: usize) -> Option<usize>
-        requires { (head < 512) × (rest < self.now.count) }
-        ensures { Finds whole (rows_of self.now) self.now.count head level rest result }
+    // The place of the chain.
+    pub(crate) fn find(&self, chain: Chain) -> Option<usize>
+        requires { (chain.head < 512) × (chain.fallback < self.now.count) }
+        ensures { Finds whole (rows_of self.now) self.now.count chain.head chain.level chain.fallback result }
     {
-        let mut p = usize::from(self.newest[head]);
+        let mut p = usize::from(self.newest[chain.head]);
         while p != 0 {
-            if self.same_chain(p, head, level, rest) {
+            if self.same_chain(p, chain) {
                 return Some(p);
             }
             p = usize::from(self.rows[p].earlier);
@@ -123,61 +133,53 @@ impl Places {
         None
     }
 
-    // One place more, the newest of its head.
-    fn push(&mut self, head: usize, level: usize, rest: usize)
-        requires { (self.old.count < 1024) × (head < 512) × (level ≤ self.old.count) × (rest < self.old.count) }
-        ensures { chains_in self.new ≡ chains_in self.old ++ ((live head level ∷ chain_at self.old rest) ∷ []) }
+    // One place more, that of the chain: the newest of its head.
+    fn push(&mut self, chain: Chain)
+        requires { (self.old.count < 1024) × (chain.head < 512) × (chain.level ≤ self.old.count)
+            × (chain.fallback < self.old.count) }
+        ensures { chains_in self.new
+            ≡ chains_in self.old ++ ((live chain.head chain.level ∷ chain_at self.old chain.fallback) ∷ []) }
     {
         let n = self.count;
         self.rows[n] = Row {
-            head: head as u16,
-            level: level as u16,
-            earlier: self.newest[head],
-            fallback: rest as u16,
+            head: chain.head as u16,
+            level: chain.level as u16,
+            earlier: self.newest[chain.head],
+            fallback: chain.fallback as u16,
         };
-        self.newest[head] = n as u16;
+        self.newest[chain.head] = n as u16;
         self.count = n + 1;
     }
 
-    // The place of the chain that has the state head with the level put on the chain of the place rest, whose states are
-    // seen.
-    pub(crate) fn settle(
-        &self,
-        head: usize,
-        level: usize,
-        rest: usize,
-        seen: &mut [bool; 512],
-    ) -> usize
-        requires { (head < 512) × (rest < self.now.count) }
-        ensures { Settled whole (rows_of self.now) self.now.count head level rest seen.old result seen.new }
+    // The place of what the chain's head, put on its rest, makes of it: of the rest alone if the head stands there
+    // already. The states of the rest are seen. What is asked for in the exploration has a place: with an Option the
+    // callers would take up a None that never comes, so 0, which is a place too, stands for it.
+    pub(crate) fn settle(&self, chain: Chain, seen: &mut [bool; 512]) -> usize
+        requires { (chain.head < 512) × (chain.fallback < self.now.count) }
+        ensures { Settled whole (rows_of self.now) self.now.count chain.head chain.level chain.fallback seen.old result
+            seen.new }
     {
-        if seen[head] {
-            return rest;
+        if seen[chain.head] {
+            return chain.fallback;
         }
-        seen[head] = true;
-        self.find(head, level, rest).unwrap_or(0)
+        seen[chain.head] = true;
+        self.find(chain).unwrap_or(0)
     }
 
-    // The chain that has the state head with the level put on the chain of the place rest, whose states are seen, is met.
-    pub(crate) fn add(
-        &mut self,
-        head: usize,
-        level: usize,
-        rest: usize,
-        seen: &[bool; 512],
-    ) -> Result<(), Refusal>
-        requires { (head < 512) × (rest < self.old.count) × (level ≤ self.old.count)
-            × Seen seen.now (chain_at self.old rest) }
+    // What the chain's head, put on its rest, makes of it is met. The states of the rest are seen.
+    pub(crate) fn add(&mut self, chain: Chain, seen: &[bool; 512]) -> Result<(), Refusal>
+        requires { (chain.head < 512) × (chain.fallback < self.old.count) × (chain.level ≤ self.old.count)
+            × Seen seen.now (chain_at self.old chain.fallback) }
         ensures { Grown (rows_of self.new) self.new.count
-            (meet (put (Some head) level (chain_at self.old rest)) (chains_in self.old)) result }
+            (meet (put (Some chain.head) chain.level (chain_at self.old chain.fallback)) (chains_in self.old)) result }
     {
-        if seen[head] || self.find(head, level, rest).is_some() {
+        if seen[chain.head] || self.find(chain).is_some() {
             return Ok(());
         }
         if self.count == 1024 {
             return Err(Reason::Places.into());
         }
-        self.push(head, level, rest);
+        self.push(chain);
         Ok(())
     }
 }

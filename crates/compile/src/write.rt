@@ -13,11 +13,11 @@ ghost use Rattle.compile.specs.Bytes.{place_record, edge_record, trailer_of, spr
 ghost use Rattle.compile.specs.Write.{Numbered, EdgesAre, LinkIs, Wrote, edge_end, Known, Starts, EdgeNumber, RestIs};
 
 use crate::source::Source;
-use crate::work::Places;
+use crate::work::{Chain, Places};
 use std::cmp::Ordering;
 
 // A place record; its spare byte is zero.
-#[derive(Clone, Copy, PartialEq, Eq, Debug)]
+#[derive(Clone, Copy, Debug, PartialEq, Eq)]
 struct PlaceRecord {
     first: usize,
     count: usize,
@@ -31,8 +31,8 @@ struct PlaceRecord {
 impl PlaceRecord {
     fn write(&self, out: &mut [u8], at: usize)
         requires { at ≤ 20000 }
-        ensures { out.new ≡ sets out.old at (form1.place_bytes (place_record self.now.first self.now.count self.now.fallback
-            self.now.level self.now.head self.now.link self.now.mark)) }
+        ensures { out.new ≡ sets out.old at (form1.place_bytes (place_record self.now.first self.now.count
+            self.now.fallback self.now.level self.now.head self.now.link self.now.mark)) }
     {
         wire::put16(out, at, self.first);
         wire::put16(out, at + 2, self.count);
@@ -46,7 +46,7 @@ impl PlaceRecord {
 }
 
 // An edge record; its spare byte is zero.
-#[derive(Clone, Copy, PartialEq, Eq, Debug)]
+#[derive(Clone, Copy, Debug, PartialEq, Eq)]
 struct EdgeRecord {
     event: u8,
     target: usize,
@@ -64,7 +64,7 @@ impl EdgeRecord {
 }
 
 // The trailer of an image of so many places and edges, whose records come before it.
-#[derive(Clone, Copy, PartialEq, Eq, Debug)]
+#[derive(Clone, Copy, Debug, PartialEq, Eq)]
 struct Trailer {
     places: usize,
     edges: usize,
@@ -88,9 +88,9 @@ impl Trailer {
 }
 
 // The number, among the edges of the state q, of the one with the event. The events rise: they are searched by halving.
-// (kept beside the book's search by halving: one for both would answer a number alone, and where an edge leads, which is
-// asked most in the first pass, would take a second look at its record. The library's searches take a slice, and these
-// events lie four bytes apart.)
+// It stands beside crate book's search by halving: the number of an edge is wanted here, and where it leads there. One
+// search for both would answer the number, and the first pass, which asks most, would read each record found twice.
+// It is a loop, as the records lie in bytes: crate book reads them one by one, and has no slice of them to search.
 fn edge_of(source: &Source, q: usize, event: usize) -> Option<usize>
     requires { q < 512 }
     ensures { EdgeNumber (source_book source.now) q event result }
@@ -112,8 +112,8 @@ fn edge_of(source: &Source, q: usize, event: usize) -> Option<usize>
     None
 }
 
-// A book with all its places, whose image is written. `start` is, once the edge records of place 0 are written, the place
-// that each event leads to from it: 0 where the start has no edge.
+// A book with all its places, whose image is written. `start` is, once the edge records of place 0 are written, the
+// place that each event leads to from it: 0 where the start has no edge.
 #[derive(Drop)]
 struct Writing<'a> {
     source: &'a Source<'a>,
@@ -131,6 +131,7 @@ impl<'a> Writing<'a> {
         ensures { LinkIs (book_of self.now) (rows_in self.now) p result }
     {
         let mut g = p;
+        // A `while`, here and in `rest`, as each place is had from the one before.
         while g != 0 {
             if self.source.mark(self.places.head(g)) != 0 {
                 return g;
@@ -187,8 +188,8 @@ impl<'a> Writing<'a> {
         row
     }
 
-    // The place of what the event makes of the rest of the chain of p, as a walk over the image finds it: the edge records
-    // of the places below p are written, and the walk ends at place 0 by its row.
+    // The place of what the event makes of the rest of the chain of p, as a walk over the image finds it: the edge
+    // records of the places below p are written, and the walk ends at place 0 by its row.
     fn rest(&self, p: usize, event: usize, out: &[u8]) -> usize
         requires { Walks self.now p out.now × (event < 256) }
         ensures { RestIs (book_of self.now) (rows_in self.now) (count_of self.now) p event result }
@@ -215,13 +216,19 @@ impl<'a> Writing<'a> {
             (step (delta (book_of self.now)) (chain_of (rows_in self.now) p) edge.event) result }
     {
         let rest = self.rest(p, edge.event, out);
-        let level = self.places.level(p) + 1;
-        self.places.find(edge.target, level, rest).unwrap_or(rest)
+        let level = self.places.level(p);
+        let chain = Chain {
+            head: edge.target,
+            level: level + 1,
+            fallback: rest,
+        };
+        self.places.find(chain).unwrap_or(rest)
     }
 
     // The edge records of the place p, exactly the edges of its head; where they end.
     fn write_own(&self, p: usize, out: &mut [u8], at: usize) -> usize
-        requires { Walks self.now p out.old × (edge_end (book_of self.now) (rows_in self.now) (count_of self.now) p ≤ at)
+        requires { Walks self.now p out.old
+            × (edge_end (book_of self.now) (rows_in self.now) (count_of self.now) p ≤ at)
             × (at + 4 * length (outs (book_of self.now) (get_or (rows_in self.now).heads p 0)) ≤ 30720) }
         ensures { Wrote out.old at
             (spread form1.edge_bytes (edges_of (book_of self.now) (list_in self.now) p)) out.new result }
@@ -243,7 +250,8 @@ impl<'a> Writing<'a> {
     // The edge records of all places.
     fn write_edges(&mut self, out: &mut [u8])
         requires { Known (book_of self.old) (rows_in self.old) (count_of self.old) 0 out.old
-            × (edge_end (book_of self.old) (rows_in self.old) (count_of self.old) (count_of self.old) ≤ length out.old) }
+            × (edge_end (book_of self.old) (rows_in self.old) (count_of self.old) (count_of self.old)
+            ≤ length out.old) }
         ensures { out.new ≡ sets out.old (14 * count_of self.old) (edge_records self.old) }
     {
         let count = self.places.count();

@@ -4,12 +4,10 @@
 --   decided_both        the same, and the memory is equated with a definition
 --   byte, number, state_record, edge_record_lem, writes  the contract is a record that does so, its answer's bounds besides
 -- Assumes nothing.
-use mathlib.Core.Path.{◌≡◌, sym, ap, ◌∙◌}
+use mathlib.Core.Path.{◌≡◌, sym, ◌∙◌}
 use mathlib.Core.List.{List}
-use mathlib.Core.HLevel.{is_prop→PathP}
-use Rattle.std.proofs.Props.{props}
-use Rattle.image.specs.declared.Counts.{Counts}
 use Prim.Native.Nat.{ℕ}
+use Rattle.meaning.proofs.Refused.{Apart}
 use Rattle.wire.specs.Little.{ByteIs, NumberIs}
 use Rattle.book.specs.Rules.{told as told_book}
 use Rattle.book.specs.Reads.{StateIs, EdgeIs}
@@ -17,11 +15,8 @@ use Rattle.book.specs.declared.StateRecord.{StateRecord}
 use Rattle.book.specs.declared.EdgeRecord.{EdgeRecord}
 use Rattle.book.proofs.Answers.{told_injective as book-apart}
 use Rattle.image.specs.Answers.{told_checked, told_asked, told_edged, told_walked, told_ran}
-use Rattle.image.specs.Rules.{check_image}
-use Rattle.image.specs.Calls.{places_in, edges_in}
 use Rattle.image.specs.Opened.{lent}
-use Rattle.std.specs.Borrow.{Bor}
-use Rattle.image.specs.declared.open_image.Image.{Image}
+use Rattle.image.proofs.Opened.{lent_apart}
 use Rattle.image.proofs.Told.{checked_apart, asked_apart, edged_apart, walked_apart, ran_apart}
 use Rattle.compile.specs.Answer.{told as told_compiled}
 use Rattle.compile.proofs.Answers.{told_injective as compiled-apart}
@@ -33,9 +28,6 @@ use Rattle.lists.proofs.Told.{short_told_apart, part_told_apart}
 use Rattle.demands.specs.Determined.{One, OneBoth, OneText, OfWire, OfBook, OfImage, OfCompile, OfLists, Determined}
 
 -- ---- the ways
-abbrev Apart : {A B : Type 0} → (A → B) → Type 0
-Apart {A} told = (r s : A) → told r ≡ told s → r ≡ s
-
 fixed : {A : Type 0} (a : A) → One (λ r. r ≡ a)
 fixed a r s h k = h ∙ sym k
 
@@ -60,23 +52,6 @@ edge_record_lem x r s h k = h.is ∙ sym k.is
 
 writes : (t : Text) (bytes : List ℕ) → OneText (λ r. Writes t bytes r)
 writes t bytes r s h k = (h.wrote.next ∙ sym k.wrote.next, h.wrote.memory ∙ sym k.wrote.memory)
-
-abbrev Counted : List ℕ → Counts → Type 0
-Counted xs c = (c.places ≡ places_in (check_image xs)) × (c.edges ≡ edges_in (check_image xs))
-
--- the counts of an open image are those of its slice, and a fact about numbers has one proof
-image_same : (x y : Image) → lent x ≡ lent y → x ≡ y
-image_same x y e =
-    let checked : check_image (lent x).now ≡ check_image (lent y).now = ap (λ (b : Bor (List ℕ)). check_image b.now) e in
-    let places : x.counts.places ≡ y.counts.places = x.counted.0 ∙ ap places_in checked ∙ sym y.counted.0 in
-    let edges : x.counts.edges ≡ y.counts.edges = x.counted.1 ∙ ap edges_in checked ∙ sym y.counted.1 in
-    let counts : x.counts ≡ y.counts = λ i. record { places = places i; edges = edges i } in
-    λ i. record {
-      bytes = e i;
-      counts = counts i;
-      counted =
-          is_prop→PathP (λ j. Counted (e j).now (counts j)) (λ j. hlevel props) x.counted y.counted i;
-    }
 
 -- ---- the functions
 of_wire : OfWire
@@ -117,7 +92,7 @@ of_image =
       ask_edge = λ xs p a. decided told_edged edged_apart _;
       step = λ xs p a. decided told_walked walked_apart _;
       next_in_lem = λ xs q p a. decided told_walked walked_apart _;
-      open_image = λ slice x y h k. image_same x y (h ∙ sym k);
+      open_image = λ slice. decided lent lent_apart _;
       fallback = λ M p. decided told_asked asked_apart _;
       level = λ M p. decided told_asked asked_apart _;
       mark = λ M p. decided told_asked asked_apart _;

@@ -11,8 +11,8 @@
 -- Exceptions:
 --   wire::pair          requires that both bytes are there. Where they are, its answer is fixed, and it is that of `wire::le16`,
 --                       which asks nothing. It is there for speed.
---   book::lead_rising   requires that the state's events rise. Where they do, its answer is fixed; of any other input its
---                       contract says nothing. It is there for speed: `book::lead` asks nothing and is fixed for every input.
+--   Table::lead_rising  requires that the state's events rise. Where they do, its answer is fixed; of any other input its
+--                       contract says nothing. It is there for speed: `Table::lead` asks nothing and is fixed for every input.
 --   lists::part         fixed are the bytes of the part returned, not its address. Where in the log it stands is what
 --                       `part_answer` says, and that is fixed.
 use Rattle.std.specs.Prelude.{◌≡◌, List, [], ◌∷◌, ℕ, ◌+◌, ◌<◌, length, set, Option, Result}

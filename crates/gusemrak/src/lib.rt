@@ -16,7 +16,7 @@ ghost use Rattle.gusemrak.specs.Face.{face};
 
 use meaning::Refusal;
 
-// Number 0 where a call is not refused; the numbers that an answer does not have are 0.
+// As C has it: number 0 where a call is not refused; the numbers that an answer does not have are 0.
 #[repr(C)]
 #[derive(Clone, Copy, Debug, PartialEq, Eq)]
 pub struct Answer {

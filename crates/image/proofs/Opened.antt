@@ -5,7 +5,7 @@
 --   opened-asked        of an accepted image's place: fallback, level, mark, edge and the next walk
 --   opened_nothing      of a refused image: 20
 -- Assumes nothing.
-use mathlib.Core.Path.{◌≡◌, refl, sym, ap, ◌∙◌}
+use mathlib.Core.Path.{◌≡◌, sym, ap, ◌∙◌}
 use mathlib.Core.List.{List}
 use mathlib.Core.HLevel.{is_prop→PathP}
 use Rattle.std.proofs.Props.{props}
@@ -39,10 +39,6 @@ lent_apart M N e =
           (λ j. (f j ≡ places_in (check_image (e j).now)) × (g j ≡ edges_in (check_image (e j).now)))
           (λ j. hlevel props) M.counted N.counted i;
     }
-
-by_answer : {A : Type 0} (x : Answer) → ((a b c d : ℕ) → x ≡ accepted a b c d → A) → ((n p : ℕ) → x ≡ refused n p → A) → A
-by_answer (accepted a b c d) f g = f a b c d refl
-by_answer (refused n p) f g = g n p refl
 
 -- no places exactly where the image is refused
 pub opened_refused : (xs : List ℕ) (n p : ℕ) → check_image xs ≡ refused n p → places_in (check_image xs) ≡ 0

@@ -34,10 +34,10 @@ trailer_in f xs e =
     let distance = and_true _ (eqb t.distance (size_of f t.places t.edges)) size.0 in
     let edges = and_true _ (leb t.edges f.most_edges) distance.0 in
     let places = and_true _ (leb t.places f.most_places) edges.0 in
-    let Some = and_true (eqb t.form f.number) (leb 1 t.places) places.0 in
+    let some = and_true (eqb t.form f.number) (leb 1 t.places) places.0 in
     record {
       long = leb-true _ _ long.0;
-      some_place = leb-true _ _ Some.1;
+      some_place = leb-true _ _ some.1;
       few_places = leb-true _ _ places.1;
       few_edges = leb-true _ _ edges.1;
       size = eqb-true _ _ size.1;
@@ -115,12 +115,12 @@ pub edge_in_lem : (q level floor : ℕ) (e : EdgeRecord) (reached : ℕ) → edg
 unfolding edge_right
 edge_in_lem q level floor e reached h =
     let reach = and_true _ (leb reached (level + 1)) h in
-    let Some = and_true _ (leb 1 e.target) reach.0 in
-    let rises = and_true _ (leb floor e.event) Some.0 in
+    let some = and_true _ (leb 1 e.target) reach.0 in
+    let rises = and_true _ (leb floor e.event) some.0 in
     let target = and_true (ltb e.target q) (eqb e.spare 0) rises.0 in
     record {
       rises = leb-true _ _ rises.1;
-      some_target = leb-true _ _ Some.1;
+      some_target = leb-true _ _ some.1;
       target = ltb-true _ _ target.0;
       reach = leb-true _ _ reach.1;
     }

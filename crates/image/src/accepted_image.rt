@@ -8,7 +8,8 @@ ghost use Rattle.image.specs.Held.{Accepted, edges_of};
 use crate::field;
 use crate::lookup::Edges;
 
-// Its bytes, and how many places it has. It is made where the check has said so, and nowhere else.
+// Its bytes, and how many places it has. It is made where the check has said so, and nowhere else. That a number is one
+// of its places is asked at each call: a type of places would have to name the image that they are of.
 #[derive(Clone, Copy)]
 pub(crate) struct AcceptedImage<'a> {
     pub(crate) bytes: &'a [u8],

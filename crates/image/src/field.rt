@@ -1,4 +1,4 @@
-// The numbers of an image's records. Form 1's offsets stand here alone.
+// The numbers of an image's records. Where they lie in a record of form 1 stands here alone.
 ghost use Rattle.std.specs.Prelude.{◌≡◌, List, ℕ, ◌+◌, ◌*◌, ◌/◌, ◌%◌, ◌≤◌, ◌<◌, length, get_or, min};
 ghost use Rattle.std.proofs.Common.{arith};
 ghost use Rattle.std.proofs.lemmas.List.Edits.{sets};
@@ -66,6 +66,9 @@ impl<'a> Bytes for Padded<'a> {
 }
 
 // ---- a place record
+
+// A function for each number, as each is asked for by its word: by an offset as a parameter a caller would name 6 where
+// it says `level`.
 
 pub(crate) fn first<B: Bytes>(bytes: B, p: usize) -> usize
     requires { 14 * p + 14 ≤ B.end bytes }
@@ -201,9 +204,9 @@ pub(crate) fn edge_offset(q: usize, j: usize) -> u32
 
 // ---- a record of a run
 
-// As one number, little-endian: the end, the length, the mark.
-// kept byte by byte, which the compiler makes one store: with `copy_from_slice` of the number's `to_le_bytes` a log that
-// writes many records took 804 instructions an event in place of 474.
+// As one number, little-endian: the end, the length, the mark. Byte by byte, which the compiler makes one store: with
+// `copy_from_slice` of the number's `to_le_bytes` a log that writes many records takes 804 instructions an event, and
+// 474 so; a run may take 10 % more than recorded.
 pub(crate) fn put_record(out: &mut [u8], at: usize, number: usize)
     requires { (at + 8 ≤ length out.old) × (number < 72057594037927936) }
     ensures { out.new

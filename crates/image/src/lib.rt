@@ -36,7 +36,7 @@ pub struct Counts {
 }
 
 // A place with its level, and the failure steps of the event that led there.
-#[derive(Clone, Copy, Debug, PartialEq, Eq)]
+#[derive(Clone, Copy, Debug, Default, PartialEq, Eq)]
 pub struct Walk {
     pub place: u32,
     pub level: u32,
@@ -67,7 +67,8 @@ struct Moved {
     steps: usize,
 }
 
-// Where a run stands, and whether it has no room for the next event's records.
+// Where a run stands, and whether it has no room for the next event's records. A flag, as a run stands somewhere either
+// way: both cases of an enum would hold the same four numbers.
 #[derive(Clone, Copy)]
 struct Going {
     taken: usize,
@@ -206,7 +207,7 @@ pub fn run(image: &[u8], place: u32, base: u32, log: &[u8], out: &mut [u8]) -> R
         return Err(Reason::Place.into());
     }
     let start = base as usize;
-    if 4294967295 - start < log.len() {
+    if u32::MAX as usize - start < log.len() {
         return Err(Reason::Base.into());
     }
     let image = AcceptedImage {

@@ -39,7 +39,8 @@ impl<B: Bytes> Edges<B> {
     {
         let mut left = self.count;
         let mut j = self.first;
-        // kept a `while`: each turn leaves a half
+        // a `while`, as each turn leaves a half; the library's halving would branch at each (for the other two halvings
+        // see `edge_of` in `compile`)
         while 1 < left {
             let h = left / 2;
             j += ahead(h, field::edge_event(self.bytes, self.places, j + h), event);

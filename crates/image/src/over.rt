@@ -1,5 +1,5 @@
 // A run over an accepted image.
-ghost use Rattle.std.specs.Prelude.{◌≡◌, true, false, ℕ, ◌+◌, ◌*◌, ◌≤◌, ◌<◌, length, get_or, leb};
+ghost use Rattle.std.specs.Prelude.{◌≡◌, true, false, ℕ, ◌+◌, ◌*◌, ◌≤◌, ◌<◌, length, get_or, leb, replicate};
 ghost use Rattle.std.proofs.lemmas.List.Edits.{sets};
 ghost use Rattle.meaning.specs.Answer.{accepted};
 ghost use Rattle.meaning.specs.Records.{records_at};
@@ -14,52 +14,48 @@ use crate::{Going, Moved, Ran, field};
 
 // ---- the tables
 
-// Where each event leads from place 0, from the last edge to the first.
-fn root(image: AcceptedImage) -> [usize; 256]
-    ensures { IsRoot (questions_of image.entry) result }
+// Where each event leads from place 0, from the last edge to the first. `Classes::own_edges` fills a row so too: by
+// classes and not by events, of numbers of another width.
+fn fill_root(image: AcceptedImage, root: &mut [u16; 256])
+    requires { root.old ≡ replicate 256 0 }
+    ensures { IsRoot (questions_of image.entry) root.new }
 {
     let edges = image.edges(0);
-    let mut root = [0; 256];
     for j in (edges.first..edges.first + edges.count).rev() {
-        root[image.event(j)] = image.target(j);
+        root[image.event(j)] = image.target(j) as u16;
     }
-    root
 }
 
-// Which events stay at place 0. `root` says so too, but an event that stays there takes 7.8 instructions with a byte that
-// is compared where it stands, and 8.8 with a number of `root`, which is loaded first.
-fn quiet(root: &[usize; 256]) -> [bool; 256]
-    ensures { (a : ℕ) → a < 256 → get_or result a false ≡ true → get_or root.now a 0 ≡ 0 }
+// Which events stay at place 0. `root` says so too, but an event that stays there takes 7.8 instructions with a byte
+// that is compared where it stands, and 8.8 with a number of `root`, which is loaded first.
+fn fill_quiet(root: &[u16; 256], quiet: &mut [bool; 256])
+    ensures { (a : ℕ) → a < 256 → get_or quiet.new a false ≡ true → get_or root.now a 0 ≡ 0 }
 {
-    let mut quiet = [false; 256];
     for a in 0..256 {
         quiet[a] = root[a] == 0;
     }
-    quiet
 }
 
 // For each place in one number: the next place that reports, the level and the mark, these where a record has them.
-fn packed(image: AcceptedImage) -> [usize; 1024]
-    ensures { IsPacked image.entry.bytes.now image.entry.places result }
+fn fill_packed(image: AcceptedImage, packed: &mut [usize; 1024])
+    ensures { IsPacked image.entry.bytes.now image.entry.places packed.new }
 {
-    let mut packed = [0; 1024];
     for p in 0..image.places {
         let link = image.link(image.fallback(p));
         let level = image.level(p);
         let mark = image.mark(p);
         packed[p] = link + 4294967296 * level + 281474976710656 * mark;
     }
-    packed
 }
 
 // ---- the run
 
-// What stays the same while a run goes. It is passed by value, as behind a reference the compiler reads the image's counts
-// anew at every event (94.7 instructions an event of a wide image, and 87.8 by value).
+// What stays the same while a run goes. It is passed by value, as behind a reference the compiler reads the image's
+// counts anew at every event (94.7 instructions an event of a wide image, and 87.8 by value).
 #[derive(Clone, Copy)]
 struct Runner<'a> {
     image: AcceptedImage<'a>,
-    root: &'a [usize; 256],
+    root: &'a [u16; 256],
     quiet: &'a [bool; 256],
     packed: &'a [usize; 1024],
     room: usize,
@@ -84,7 +80,7 @@ impl<'a> Runner<'a> {
         let image = self.image;
         let mut p = place;
         let mut steps = 0;
-        // kept a `while`: it goes from fallback to fallback, not by an index
+        // a `while`, as it goes from fallback to fallback and not by an index
         while p != 0 {
             if let Some(j) = image.find(p, event) {
                 return Moved {
@@ -96,7 +92,7 @@ impl<'a> Runner<'a> {
             steps += 1;
         }
         Moved {
-            place: self.root[event],
+            place: usize::from(self.root[event]),
             steps,
         }
     }
@@ -111,8 +107,8 @@ impl<'a> Runner<'a> {
 
     // ---- its records
 
-    // kept: both loops follow links, each had from the one before. An iterator of them would be a struct and an impl with
-    // its ghost members, for two loops of a few lines.
+    // Two loops follow the links, each had from the one before: by `iter::successors` the look into the table and the
+    // test for the last would be a closure in both, and neither would be shorter.
 
     fn count(self, place: usize) -> usize
         requires { place < self.image.places }
@@ -189,7 +185,8 @@ impl<'a> Runner<'a> {
         ensures { CarriedInTo self.entry until out.old from out.new result }
     {
         let mut g = from;
-        // kept a `while`: an event for whose records there is no room is not taken, and how many are is part of the answer
+        // a `while` on the events taken, which `turn` counts where there is room for the records: a `for` over the log
+        // would count them a second time
         while !g.full && g.taken < until {
             let event = usize::from(self.log[g.taken]);
             if self.idle(g.place, event) {
@@ -208,7 +205,8 @@ impl<'a> Runner<'a> {
         self.carry(|p, a| self.step(p, a), until, out, from)
     }
 
-    // To the end of the log by a table of every step, where the image's steps fit into it. It takes 128 KiB of the stack.
+    // To the end of the log by a table of every step, where the image's steps fit into it. It takes 128 KiB of the
+    // stack.
     fn tabled(self, out: &mut [u8], from: Going) -> Going
         requires { ReadyIn self out.old from }
         ensures { CarriedInTo self.entry (length self.entry.log.now) out.old from out.new result }
@@ -281,9 +279,14 @@ pub(crate) fn run(
         ≡ sets out.old 0
         (list_bytes (ran_over image.entry.bytes.now image.entry.places base place log.now out.old).records)) }
 {
-    let root = root(image);
-    let quiet = quiet(&root);
-    let packed = packed(image);
+    // arrays, as the library has no heap, filled where they stand: given back by value they are copied, and a run of
+    // one event takes a tenth longer
+    let mut root = [0; 256];
+    fill_root(image, &mut root);
+    let mut quiet = [false; 256];
+    fill_quiet(&root, &mut quiet);
+    let mut packed = [0; 1024];
+    fill_packed(image, &mut packed);
     let runner = Runner {
         image,
         root: &root,

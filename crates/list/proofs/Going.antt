@@ -49,12 +49,12 @@ fine image h = go (check_image image) refl
           told = ap places_in z;
         }
 
-module _ (image : List ℕ) (Some : 0 < places_in (check_image image)) (log : List ℕ) (short : length log ≤ 32768) where
+module _ (image : List ℕ) (some : 0 < places_in (check_image image)) (log : List ℕ) (short : length log ≤ 32768) where
   abbrev M : Image
   M = questions image
 
   F : Fine image
-  F = fine image Some
+  F = fine image some
 
   levels : Levels M
   levels = accepted_levels image _ _ 0 0 F.is
@@ -80,7 +80,7 @@ module _ (image : List ℕ) (Some : 0 < places_in (check_image image)) (log : Li
   pub going_start : Going 0 0 0
   unfolding steps_over
   going_start =
-      record { within = omega arith; below = Some; counted = omega arith; few = omega (arith, levels.zero-level) }
+      record { within = omega arith; below = some; counted = omega arith; few = omega (arith, levels.zero-level) }
 
   module _ (at p steps : ℕ) (g : Going at p steps) where
     abbrev here : Outcome

@@ -104,7 +104,7 @@ module _ (image : List ℕ) (bytes : (k : ℕ) → get_or image k 0 < 256) where
   unfolding place_at
   mark_small p = bytes (14 * p + 12)
 
-  module _ (Some : 0 < places_in (check_image image)) (log : List ℕ) (short : length log ≤ 32768) (p at : ℕ)
+  module _ (some : 0 < places_in (check_image image)) (log : List ℕ) (short : length log ≤ 32768) (p at : ℕ)
       (below : p < places_in (check_image image)) (within : at ≤ length log) where
     abbrev here : Outcome
     here = outcome_at image p log at
@@ -114,7 +114,7 @@ module _ (image : List ℕ) (bytes : (k : ℕ) → get_or image k 0 < 256) where
         run_small (questions image) level_small mark_small 1023 at p (drop at log) (rw length-drop (omega arith))
 
     answer : part_answer image p log at ≡ run_told here
-    answer = part_accepted image Some log short p at below within
+    answer = part_accepted image some log short p at below within
 
     told : run_answer image p at (drop at log) no_records ≡ run_told here
     unfolding part_answer

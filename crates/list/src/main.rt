@@ -37,8 +37,8 @@ struct Part {
     length: usize,
 }
 
-// The run goes on at the log's event `at`, from a place that the part before it came to. Kept: the text is lent, and the
-// part has the length of its lines, as `Parted` speaks of the two.
+// The run goes on at the log's event `at`, from a place that the part before it came to. The text is lent, and the part
+// has the length of its lines, as `Parted` speaks of the two.
 fn next_part(image: &[u8], place: u32, log: &[u8], at: usize, text: &mut [u8]) -> Part
     requires { (at ≤ length log.now) × (length log.now ≤ 32768) }
     ensures { Parted image.now place log.now at text.old text.new result }
@@ -64,7 +64,7 @@ fn show(rt: &HostRuntime, bytes: &[u8]) {
     let _ = io::writer(rt).write_all(bytes);
 }
 
-// Prints the lines of the full list, part by part, and answers the run's failure steps. Every part takes an event. Kept: a
+// Prints the lines of the full list, part by part, and answers the run's failure steps. Every part takes an event. A
 // `while`, as how far a part comes is known when it is run.
 fn print_parts(rt: &HostRuntime, image: &[u8], log: &[u8]) -> usize
     requires { (length log.now ≤ 32768) × (0 < places_in (check_image image.now)) }
@@ -107,7 +107,7 @@ fn print_listing(rt: &HostRuntime, image: &[u8], places: usize, log: &[u8])
     show(rt, &line[..length]);
 }
 
-// Kept: not `{refusal}`, as the text of `put_refused` is promised.
+// By `put_refused`, whose text is promised: what `write!` prints is promised of an `Ok` alone.
 fn print_refused(rt: &HostRuntime, refusal: Refusal) {
     let mut line = [0u8; LINE];
     let mut text = Text {
@@ -124,16 +124,13 @@ fn print_all(rt: &HostRuntime, book: &[u8], log: &[u8]) -> Result<(), Refusal> {
     let mut image = [0u8; IMAGE];
     let made = compile::compile(book, &mut image)?;
     if LOG <= log.len() {
-        return Err(Refusal {
-            reason: Reason::Log,
-            place: 0,
-        });
+        return Err(Reason::Log.into());
     }
     print_listing(rt, &image[..made.length], made.places, log);
     Ok(())
 }
 
-// The file is read until it ends, can't be read on or the buffer is full. Kept: `fs::read` and `read_to_end` fill a `Vec`,
+// The file is read until it ends, can't be read on or the buffer is full. `fs::read` and `read_to_end` fill a `Vec`,
 // and the program has no heap; `read_exact` doesn't say where a file ends that is shorter.
 fn read_full(file: &mut File, bytes: &mut [u8]) -> usize
     ensures { (result ≤ length bytes.new) × (result ≡ length (take result bytes.new)) }

@@ -13,11 +13,6 @@ use Rattle.wire.specs.Record.{record_bytes}
 use Rattle.meaning.specs.Records.{Record, recorded}
 use Rattle.lists.specs.Whole.{record_at, records_from, records_of, end_of, joined, record_of, decoded}
 
-pub length-records_from : (n : ℕ) (xs : List ℕ) (at : ℕ) → length (records_from n xs at) ≡ n
-unfolding records_from
-length-records_from zero xs at = refl
-length-records_from (suc n) xs at = ap suc (length-records_from n xs (at + 8))
-
 pub length-record_at : (xs : List ℕ) (at : ℕ) → at + 8 ≤ length xs → length (record_at xs at) ≡ 8
 length-record_at xs at h = simp (length-take, length-drop) (omega arith)
 

@@ -1,5 +1,5 @@
 -- Bytes written one after the other are written as one run, whether they fit or not. `wrote_then`: two runs are one.
--- `wrote_none`, `wrote_out`: where nothing is written. `wrote_fits`, `wrote_start`: where all bytes fit. `wrote_unique`:
+-- `wrote_none`: where nothing is written. `wrote_fits`, `wrote_start`: where all bytes fit. `wrote_unique`:
 -- no second outcome. Assumes nothing.
 use mathlib.Core.Path.{◌≡◌, refl, sym, ap, ◌∙◌}
 use mathlib.Core.List.{List, [], ◌∷◌, ◌++◌}
@@ -30,10 +30,6 @@ sets_fitting out at a next b e =
 
 pub wrote_none : (out : List ℕ) (at : ℕ) → Wrote out at [] out at
 wrote_none out at = record { memory = refl; next = omega arith }
-
--- past the end
-pub wrote_out : (out : List ℕ) (at byte : ℕ) → length out ≤ at → Wrote out at (byte ∷ []) out at
-wrote_out out at byte h = record { memory = sym (set_out out at byte h); next = omega arith }
 
 pub wrote-length : {out : List ℕ} {at : ℕ} {bytes out' : List ℕ} {r : ℕ} → Wrote out at bytes out' r
     → length out' ≡ length out

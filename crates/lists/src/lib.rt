@@ -19,7 +19,7 @@ pub mod text;
 const RECORD: usize = 8;
 
 // The part that an end and a length name, by its offset in the log and its length there.
-#[derive(Clone, Copy, Debug, PartialEq, Eq, Hash)]
+#[derive(Clone, Copy, Debug, PartialEq, Eq)]
 pub struct Named {
     pub offset: usize,
     pub length: usize,

@@ -33,7 +33,7 @@ impl Text<'_> {
         self.put_byte(b' ');
     }
 
-    // The line of a record. Kept: four numbers and not a `Record`, as it promises the line of any numbers.
+    // The line of a record. It takes four numbers and not a `Record`, as it promises the line of any numbers.
     pub fn put_line(&mut self, end: usize, length: usize, mark: usize, letter: u8)
         ensures { Writes self.old (line_text end length mark letter) self.new }
     {
@@ -74,6 +74,7 @@ impl Text<'_> {
         self.put_pair(b"places ", places, b" fails ", steps);
     }
 
+    // The line of a refusal, by the numbers that document 01 prints.
     pub fn put_refused(&mut self, number: usize, place: usize)
         ensures { Writes self.old (refused_text number place) self.new }
     {

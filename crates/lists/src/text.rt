@@ -29,7 +29,7 @@ impl Text<'_> {
         }
     }
 
-    // A call for each digit, the highest first: at most twenty. Kept: `write!` prints a number too, but what it wrote is
+    // A call for each digit, the highest first: at most twenty. Not by `write!`, as what that wrote is
     // promised of an `Ok` alone, and no clause says that a writer which never fails answers one.
     pub fn put_decimal(&mut self, number: usize)
         ensures { Writes self.old (decimal number) self.new }

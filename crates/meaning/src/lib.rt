@@ -1,8 +1,8 @@
 // What every call may be refused for. All else of this crate is definitions in specs/ and theorems in proofs/.
 #![tactic(auto)]
 
-/// Why a call is refused, in the order of document 01: `reason as u32` is the refusal's number.
-#[derive(Clone, Copy, Debug, PartialEq, Eq, Hash)]
+// Why a call is refused, in the order of document 01: `reason as u32` is the refusal's number.
+#[derive(Clone, Copy, Debug, PartialEq, Eq)]
 pub enum Reason {
     // a book
     Short = 1,
@@ -37,8 +37,8 @@ pub enum Reason {
     Log,
 }
 
-/// A refusal: its reason, and the offset of the record at fault, 0 where it is of no record.
-#[derive(Clone, Copy, Debug, PartialEq, Eq, Hash)]
+// A refusal: its reason, and the offset of the record at fault, 0 where it is of no record.
+#[derive(Clone, Copy, Debug, PartialEq, Eq)]
 pub struct Refusal {
     pub reason: Reason,
     pub place: u32,

@@ -6,13 +6,6 @@ ghost use Rattle.stepbench.specs.Sum.{summed, summed_first};
 
 use image::Walk;
 
-// Where a walk goes on that is refused.
-const START: Walk = Walk {
-    place: 0,
-    level: 0,
-    steps: 0,
-};
-
 fn total(walk: Walk) -> u64
     ensures { (result ≡ walk.place + walk.level + walk.steps) × (result < 12884901888) }
 {
@@ -25,7 +18,8 @@ fn steps(image: &[u8], places: u32, log: &[u8]) -> u64
     let mut place = 0;
     let mut sum: u64 = 0;
     for &event in log {
-        let walk = image::next_in(image, places, place, event).unwrap_or(START);
+        // where it is refused, place 0
+        let walk = image::next_in(image, places, place, event).unwrap_or_default();
         sum = (sum + total(walk)) % 4294967296;
         place = walk.place;
     }

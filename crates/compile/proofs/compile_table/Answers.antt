@@ -22,7 +22,7 @@ pub write_image-requires : goal.write_image-requires
 write_image-requires c =
     let x = c.in_ok-edges.ensures in
     let room = c.if-out-length.false in
-    (numbered x c.if-edges-gt4096.false c.explore.new.places.fit.held, x.edges, omega (arith, c.count.ensures))
+    (numbered x c.if-edges-gt4096.false c.explore.new.self.places.fit.held, x.edges, omega (arith, c.count.ensures))
 
 pub returns : goal.returns
 returns c =

@@ -7,7 +7,7 @@ use Rattle.list.proofs.Going.{going_start, going_on, going_end}
 use Rattle.list.proofs.print_parts.Goals as goal
 
 pub loop-at-init : goal.loop-at-init
-loop-at-init c = (length-replicate {A = ℕ} 23529 0, λ Some short. going_start _ Some _ short)
+loop-at-init c = (length-replicate {A = ℕ} 23529 0, λ some short. going_start _ some _ short)
 
 pub overflow_add-at : goal.overflow_add-at
 overflow_add-at c =
@@ -33,8 +33,8 @@ loop-at-smaller c =
 pub loop-at-preserved : goal.loop-at-preserved
 loop-at-preserved c = (
   c.next_part-part.auto.text ∙ c.loop-at.invariant.0,
-  λ Some short.
-      (going_on _ Some _ short _ _ _ (c.loop-at.invariant.1 Some short) c.loop-at-test.true
+  λ some short.
+      (going_on _ some _ short _ _ _ (c.loop-at.invariant.1 some short) c.loop-at-test.true
       c.next_part-part.ensures).1,
 )
 

@@ -10,8 +10,8 @@ use Rattle.list.proofs.print_parts.Given as goal
 abbrev pub invariant-loop-at : goal.invariant-loop-at
 invariant-loop-at l =
     (length l.text ≡ 23529)
-    × ((Some : 0 < places_in (check_image l.image)) (short : length l.log ≤ 32768)
-    → Going l.image Some l.log short l.at l.place l.steps)
+    × ((some : 0 < places_in (check_image l.image)) (short : length l.log ≤ 32768)
+    → Going l.image some l.log short l.at l.place l.steps)
 
 abbrev pub decreases-loop-at : goal.decreases-loop-at
 decreases-loop-at l = length l.log - l.at

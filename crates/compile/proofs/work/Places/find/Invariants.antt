@@ -7,7 +7,7 @@ use Rattle.compile.proofs.work.Places.find.Given as goal
 
 abbrev pub invariant-loop-p : goal.invariant-loop-p
 invariant-loop-p l =
-    Seek whole (rows_of l.self) l.self.count l.head l.level l.rest l.p
+    Seek whole (rows_of l.self) l.self.count l.chain.head l.chain.level l.chain.fallback l.p
 
 abbrev pub decreases-loop-p : goal.decreases-loop-p
 decreases-loop-p l = l.p

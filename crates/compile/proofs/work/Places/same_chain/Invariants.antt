@@ -6,7 +6,7 @@ use Rattle.compile.proofs.work.Places.same_chain.Given as goal
 
 abbrev pub invariant-loop-a : goal.invariant-loop-a
 invariant-loop-a l =
-    Comparing (rows_of l.self) l.p l.head l.level l.rest l.a l.b
+    Comparing (rows_of l.self) l.p l.fn.chain.head l.fn.chain.level l.fn.chain.fallback l.a l.b
 
 abbrev pub decreases-loop-a : goal.decreases-loop-a
 decreases-loop-a l = l.a

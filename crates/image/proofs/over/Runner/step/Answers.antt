@@ -1,6 +1,6 @@
 use Rattle.image.proofs.Move.{found_below, move_fail, move_edge, move_root}
 use Rattle.image.proofs.Accepted.{facts_of}
-use mathlib.Core.Path.{refl, sym, ◌∙◌}
+use mathlib.Core.Path.{sym, ◌∙◌}
 use Rattle.image.proofs.over.Runner.step.Goals as goal
 
 pub target-requires : goal.target-requires
@@ -26,4 +26,4 @@ loop-p-preserved c =
 pub returns : goal.returns
 returns c =
     move_root _ _ _ (facts_of c.args.self.image.accepted) _ _ _ _ _ _ c.loop-p.invariant c.loop-p-test.false
-    c.requires.1 c.args.self.rooted refl
+    c.requires.1 c.args.self.rooted c.from.ensures

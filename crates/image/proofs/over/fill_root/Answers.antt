@@ -4,12 +4,12 @@ use Rattle.image.specs.Form.{form1, edge_at}
 use native.Mathlib.Omega.{arith}
 use mathlib.Core.Path.{refl, ap}
 use Prim.Native.Nat.{ℕ, ◌+◌}
-use Rattle.image.proofs.over.root.Goals as goal
+use Rattle.image.proofs.over.fill_root.Goals as goal
 
 pub loop-j-init : goal.loop-j-init
 loop-j-init c =
     root_start (edge_at form1 c.args.image.bytes.now c.args.image.places) _ _ _ _
-    (ap (λ (n : ℕ). c.edges-edges.result.first + n) c.edges-edges.ensures.3.is) refl
+    (ap (λ (n : ℕ). c.edges-edges.result.first + n) c.edges-edges.ensures.3.is) c.requires
 
 pub loop-j-preserved : goal.loop-j-preserved
 loop-j-preserved c =

@@ -1,6 +1,6 @@
 use Rattle.image.proofs.Accepted.{facts_of, fallback_below}
 use native.Mathlib.Omega.{arith}
-use Rattle.image.proofs.over.packed.Goals as goal
+use Rattle.image.proofs.over.fill_packed.Goals as goal
 
 pub link-link-requires : goal.link-link-requires
 link-link-requires c =
