@@ -254,6 +254,9 @@ impl Table<'_> {
 
 // ---- refusals 7 to 13, each judged over the whole table before the next
 
+// How many states there may be is asked at each function: `Table` is public, and a fact in it would ask more of callers.
+// So is that edges are few enough for their sum to fit: a range in place of first and count would have it beside it too.
+
 impl Table<'_> {
     // Whether an edge leads into each state.
     fn entered(self, edges: usize) -> [bool; 512]
@@ -526,7 +529,8 @@ fn halve(bytes: &[u8], states: usize, first: usize, count: usize, event: usize) 
 }
 
 impl Table<'_> {
-    // The mark of state q, 0 for a state that the table does not have.
+    // The mark of state q, 0 for a state that the table does not have: a number and no Option, as it is promised of any
+    // state.
     pub fn mark_of(self, q: usize) -> usize
         ensures { NumberIs (marks (table_book self.entry.bytes.now self.entry.states) q) 256 result }
     {

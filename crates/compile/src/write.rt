@@ -63,7 +63,7 @@ impl EdgeRecord {
     }
 }
 
-// The trailer of an image of so many places and edges, whose records come before it.
+// The trailer of an image of so many places and edges, whose records come before it. A book's has other numbers.
 #[derive(Clone, Copy, Debug, PartialEq, Eq)]
 struct Trailer {
     places: usize,

@@ -56,6 +56,8 @@ impl From<Refusal> for Answer {
     }
 }
 
+// Each call has its own `match`, as each answer has its own numbers in the order that C knows.
+
 // a: states, b: edges.
 #[unsafe(no_mangle)]
 pub extern "C" fn gusemrak_check_book(book: &[u8]) -> Answer

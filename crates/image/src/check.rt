@@ -106,7 +106,7 @@ impl<'a> Counted<'a> {
         }
     }
 
-    // The first place record at fault; past the last where the counts do not add up.
+    // The first place record at fault; past the last where the counts do not add up, as the definition of its name says.
     pub(crate) fn places_fault(self) -> Option<usize>
         ensures { FaultIs (places_fault_at self.entry.bytes.now self.entry.edges self.entry.places 0 0)
             self.entry.places result }

@@ -149,7 +149,7 @@ pub(crate) fn edge_target<B: Bytes>(bytes: B, q: usize, j: usize) -> usize
     bytes.pair(14 * q + 4 * j + 2)
 }
 
-// ---- the trailer
+// ---- the trailer, whose numbers are other ones than those of a book's
 
 pub(crate) fn distance(image: &[u8]) -> usize
     requires { form1.trailer_size ≤ length image.now }

@@ -111,6 +111,8 @@ pub fn check_image(image: &[u8]) -> Result<Counts, Refusal>
 // ---- asked of the image's bytes, which are checked first: refused by 17 to 19, and by 20 for a place that is not
 // there
 
+// Here and in `ask_edge` and `step` the image is checked and then asked: a function for the two would have a clause that
+// is longer than they are.
 fn ask_place(image: &[u8], place: u32) -> Result<Place, Refusal>
     ensures { SaysOf result (checked_first image.now (λ q. fallback_in image.now q place))
         (checked_first image.now (λ q. level_in image.now q place))

@@ -36,7 +36,8 @@ fn fill_quiet(root: &[u16; 256], quiet: &mut [bool; 256])
     }
 }
 
-// For each place in one number: the next place that reports, the level and the mark, these where a record has them.
+// For each place in one number: the next place that reports, the level and the mark, these where a record has them, so
+// that it is written by one store.
 fn fill_packed(image: AcceptedImage, packed: &mut [usize; 1024])
     ensures { IsPacked image.entry.bytes.now image.entry.places packed.new }
 {
@@ -253,6 +254,7 @@ fn pays(g: Going, end: usize) -> bool
     !g.full && g.taken < end && 2048 * g.taken / (end - g.taken) < g.steps
 }
 
+// Field by field, as the place changes its width: `From` would be the same lines.
 fn done(g: Going) -> Ran
     requires { g.place < 4294967296 }
     ensures { ran_told result ≡ accepted g.taken g.place g.records g.steps }

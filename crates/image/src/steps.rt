@@ -22,6 +22,8 @@ pub(crate) struct Classes<'a> {
 
 // ---- the rows
 
+// Place and steps of an entry are one number of 4 bytes, as 32,768 of them stand on the stack.
+
 // A row of n entries as that of a lower place, with one failure step more in each.
 fn copy_row(table: &mut [u32; 32768], n: usize, from: usize, to: usize)
     requires { (from + n ≤ to) × (to + n ≤ 32768) × (length table.old ≡ 32768)

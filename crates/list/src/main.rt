@@ -25,7 +25,8 @@ const RECORDS: usize = 8184;
 // Their lines, each of at most 23 bytes.
 const TEXT: usize = 23529;
 
-// Any other line has at most 64.
+// Any other line has at most 64. A `Text` is made where it is written and asked how far it came: a method of `lists` for
+// these two lines would be public.
 const LINE: usize = 64;
 
 // What one part of the run came to: events taken, place, failure steps, and the bytes of its lines.
