@@ -147,7 +147,9 @@ fn read_full(file: &mut File, bytes: &mut [u8]) -> usize
 }
 
 // A file that can't be opened reads as empty.
-fn read_file<'a>(rt: &HostRuntime, path: &str, bytes: &'a mut [u8]) -> &'a [u8] {
+fn read_file<'a>(rt: &HostRuntime, path: &str, bytes: &'a mut [u8]) -> &'a [u8]
+    ensures { length result.now ≤ length bytes.old }
+{
     let Ok(mut file) = File::open(rt, path) else {
         return &[];
     };
