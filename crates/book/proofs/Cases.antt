@@ -1,7 +1,7 @@
 -- Cases with their equation, those of `meaning` and on the order of two numbers; tests that fail; what a `?` gives back.
 -- Assumes nothing.
 use mathlib.Core.Path.{◌≡◌, refl}
-use mathlib.Core.Bool.{Bool, true, false, not, ◌||◌}
+use mathlib.Core.Bool.{Bool, true, false, not, ◌&&◌, ◌||◌}
 use Rattle.std.specs.Prelude.{Result, Ok, Err, IsErrAnd}
 use Prim.Native.Nat.{ℕ, ◌≤◌, ◌<◌}
 use lib.Dec.{ltb}
@@ -16,9 +16,17 @@ pub not_false : (b : Bool) → not b ≡ false → b ≡ true
 not_false true e = refl
 not_false false e = true_false refl e
 
+pub not_true : (b : Bool) → not b ≡ true → b ≡ false
+not_true true e = true_false e refl
+not_true false e = refl
+
 pub or_false : (a b : Bool) → a || b ≡ false → (a ≡ false) × (b ≡ false)
 or_false true b e = true_false refl e
 or_false false b e = (refl, e)
+
+pub and_false : {A : Type 0} (a b : Bool) → a && b ≡ false → (a ≡ false → A) → (b ≡ false → A) → A
+and_false true b e f g = g e
+and_false false b e f g = f refl
 
 -- what a `?` gives back
 pub err_is : {A E : Type 0} {e : E} (r : Result A E) → IsErrAnd r (λ d. d ≡ e) → r ≡ Err e

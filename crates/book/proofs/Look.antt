@@ -3,6 +3,7 @@
 -- Assumes nothing.
 --   SeekLoop            the search from the first edge is the search from edge j
 --   Narrowed            the event is not before edge j, nor from edge j + left on
+--   narrowed_all        all edges, at the start
 --   narrowed_start      among `count` bytes that rise an event stands from event + count - 256 to event
 use mathlib.Core.Path.{◌≡◌, refl, sym, ap, ◌∙◌}
 use mathlib.Core.Bool.{false}
@@ -82,6 +83,16 @@ spread t S first count R (suc d) k l u =
     let s = spread t S first count R d k l (omega arith) in
     let b = R (k + d) (k + suc d) (omega arith) (omega arith) u in
     omega arith
+
+-- all of them
+pub narrowed_all : (t : List ℕ) (S a first count : ℕ) → Narrowed t S a first count first count
+narrowed_all t S a first count =
+    record {
+      low = omega arith;
+      high = omega arith;
+      below = λ k l u. absurd (let w : ⊥ = omega arith in w);
+      above = λ k l u. absurd (let w : ⊥ = omega arith in w);
+    }
 
 pub narrowed_start : (t : List ℕ) (S a first count low high left : ℕ) → RiseFrom t S count first
     → ((i : ℕ) → get_or t i 0 < 256) → a < 256 → low ≡ a + count - 256 → high ≡ min count (a + 1) → left ≡ high - low

@@ -235,7 +235,7 @@ impl Table<'_> {
         StateRecord {
             mark: usize::from(self.bytes[at]),
             spare: usize::from(self.bytes[at + 1]),
-            count: wire::pair(self.bytes, at + 2),
+            count: wire::pair(self.bytes[at + 2], self.bytes[at + 3]),
         }
     }
 
@@ -247,7 +247,7 @@ impl Table<'_> {
         EdgeRecord {
             event: usize::from(self.bytes[at]),
             spare: usize::from(self.bytes[at + 1]),
-            target: wire::pair(self.bytes, at + 2),
+            target: wire::pair(self.bytes[at + 2], self.bytes[at + 3]),
         }
     }
 }

@@ -37,7 +37,7 @@ impl<'a> Bytes for &'a [u8] {
     }
 
     fn pair(self, at: usize) -> usize {
-        wire::pair(self, at)
+        wire::pair(self[at], self[at + 1])
     }
 
     ghost fits = { λ s. Prim.omega arith };

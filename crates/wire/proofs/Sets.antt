@@ -1,5 +1,5 @@
 -- Bytes written one after the other, as the kit's `sets`. `sets-append`, `sets_then`: two runs of bytes, one after the other,
--- are one run. `put16-sets`, `put32-sets`: a written number is a run of its bytes. `sets16_then`: and more after it.
+-- are one run. `put16-sets`, `put32-sets`: a written number is a run of its bytes. `sets16_then`, `sets32_then`: and more after it.
 -- `sets_out`: past the end nothing is written. Assumes nothing.
 use mathlib.Core.Path.{◌≡◌, refl, sym, ap, ◌∙◌}
 use mathlib.Core.List.{List, [], ◌∷◌, ◌++◌}
@@ -35,3 +35,11 @@ pub put32-sets : (d : List ℕ) (at v : ℕ) → put32_at d at v ≡ sets d at (
 put32-sets d at v =
     put16-sets (put16_at d at (v % 65536)) (at + 2) (v / 65536 % 65536)
     ∙ sym (sets16_then d at (at + 2) (v % 65536) (bytes16 (v / 65536 % 65536)) refl)
+
+pub sets32_then : (d : List ℕ) (at to v : ℕ) (cs : List ℕ) → to ≡ at + 4 → sets d at (bytes32 v ++ cs) ≡ sets (put32_at d at v) to cs
+sets32_then d at to v cs e =
+    sets_then d at to (bytes32 v) cs e ∙ ap (λ (z : List ℕ). sets z to cs) (sym (put32-sets d at v))
+
+-- two bytes, one after the other
+pub sets_two : (d : List ℕ) (at to a b : ℕ) → to ≡ at + 1 → set (set d at a) to b ≡ sets d at (a ∷ b ∷ [])
+sets_two d at to a b e = let f : to ≡ suc at = omega arith in rw f

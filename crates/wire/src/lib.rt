@@ -1,7 +1,7 @@
 // Little-endian numbers in bytes: reading past the end gives 0, writing past the end changes nothing.
 #![tactic(auto)]
 
-ghost use Rattle.std.specs.Prelude.{◌≡◌, ◌+◌, ◌<◌, length, set};
+ghost use Rattle.std.specs.Prelude.{◌≡◌, ◌+◌, ◌*◌, set};
 ghost use Rattle.wire.specs.Little.{ByteIs, NumberIs, le16_at, le32_at, put16_at, put32_at};
 
 // The byte at a place, 0 past the end.
@@ -11,12 +11,12 @@ pub fn byte_at(s: &[u8], at: usize) -> usize
     if at < s.len() { usize::from(s[at]) } else { 0 }
 }
 
-// Two bytes that are both there, read without a test between them: in one go.
-pub fn pair(s: &[u8], at: usize) -> usize
-    requires { at + 1 < length s.now }
-    ensures { NumberIs (le16_at s.now at) 65536 result }
+// The number that two bytes are. Where a caller knows that both are there, they are read without a test between them: in
+// one go.
+pub fn pair(low: u8, high: u8) -> usize
+    ensures { NumberIs (low + 256 * high) 65536 result }
 {
-    usize::from(u16::from_le_bytes([s[at], s[at + 1]]))
+    usize::from(u16::from_le_bytes([low, high]))
 }
 
 pub fn le16(s: &[u8], at: usize) -> usize
@@ -24,7 +24,7 @@ pub fn le16(s: &[u8], at: usize) -> usize
 {
     if at < s.len() {
         if at + 1 < s.len() {
-            pair(s, at)
+            pair(s[at], s[at + 1])
         } else {
             byte_at(s, at)
         }
