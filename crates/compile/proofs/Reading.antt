@@ -1,6 +1,6 @@
 -- The edge records of a place are written from those of lower places. `Known`: what the image has for a walk over the
 -- places below p; `known_start`, `known_edges`, `known_kept`: it does have it. `Walking`: the walk down the fallbacks,
--- to what an event makes of the rest of a chain. `after_either`: the place after an event. `edges_some`,
+-- to what an event makes of the rest of a chain. `after_found`, `after-rest`, `after_either`: the place after an event. `edges_some`,
 -- `edges_none`, `edges_own`: the edges of a state in the book. `Rowing`: the row of place 0. Assumes nothing.
 use mathlib.Core.Path.{◌≡◌, refl, sym, ap, ◌∙◌, subst}
 use mathlib.Core.Logic.{◌≢◌}
@@ -253,12 +253,12 @@ module _ {B : Book} {w : Rows} {n p a q l r : ℕ} (N : Numbered B w n)
       ∙ ap (λ (y : ℕ). put (Some q) (y + 1) (rest_after (delta B) (chain_of w p) a)) (sym g)
       ∙ ap (λ (z : Chain). put (Some q) (l + 1) z) (sym R.is)
 
-  after_found : {k : ℕ} → FoundAt whole w n q (l + 1) r k → IsPlace whole w n (step (delta B) (chain_of w p) a) k
+  pub after_found : {k : ℕ} → FoundAt whole w n q (l + 1) r k → IsPlace whole w n (step (delta B) (chain_of w p) a) k
   after_found D =
       let h = head_once N D.below D.is in record { below = D.below; is = λ i m s. D.is ∙ sym (after-put ∙ rw h) }
 
   -- what has a place has q in the rest, where no place has q in front of it
-  after-rest : NotFound whole w n q (l + 1) r → IsPlace whole w n (step (delta B) (chain_of w p) a) r
+  pub after-rest : NotFound whole w n q (l + 1) r → IsPlace whole w n (step (delta B) (chain_of w p) a) r
   after-rest D =
       record {
         below = R.below;

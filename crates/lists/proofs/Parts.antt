@@ -17,7 +17,7 @@ use Rattle.lists.specs.Part.{part_answer, part_of, cut}
 
 module _ (log : List ℕ) (base end l : ℕ) (low : base + length log ≤ 4294967295) (some-length : l ≡ 0 → ⊥)
     (starts : base + l ≤ end) (ends : end ≤ base + length log) where
-  part_fine : accepted (end - base - l) l 0 0 ≡ part_answer log base end l
+  pub part_fine : accepted (end - base - l) l 0 0 ≡ part_answer log base end l
   unfolding part_answer
   part_fine =
       let e : end - base - (end - base - l) ≡ l = omega arith in

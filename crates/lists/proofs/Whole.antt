@@ -1,8 +1,9 @@
--- Laws of records in bytes. `end_of_at`, `record_of_at`: a record is read in its place. `chunks_are`: the records as the
--- code has them. `records_of-joined`, `decoded_bytes`: whole records, and those of a run, are read back. Assumes nothing.
+-- Laws of records in bytes. `records_from-step`: one record more. `end_of_at`, `record_of_at`: a record is read in its
+-- place. `chunks_are`: the records as the code has them. `records_of-joined`, `decoded_bytes`: whole records, and those of
+-- a run, are read back. Assumes nothing.
 use mathlib.Core.Path.{◌≡◌, refl, sym, ap, ◌∙◌}
 use mathlib.Core.List.{List, [], ◌∷◌, ◌++◌, map, append_assoc}
-use Prim.Native.Nat.{ℕ, zero, suc, ◌+◌, ◌*◌, ◌/◌, ◌≤◌, ◌<◌}
+use Prim.Native.Nat.{ℕ, zero, suc, ◌+◌, ◌*◌, ◌-◌, ◌/◌, ◌≤◌, ◌<◌}
 use native.Mathlib.Omega.{arith}
 use lib.ListN.{length, take, drop, get_or, length-append, length-take, length-drop}
 use lib.Seq.{get_or-take, get_or-drop, take_at, drop_at, drop-drop}
@@ -12,6 +13,17 @@ use Rattle.wire.specs.Little.{le16_at, le32_at}
 use Rattle.wire.specs.Record.{record_bytes}
 use Rattle.meaning.specs.Records.{Record, recorded}
 use Rattle.lists.specs.Whole.{record_at, records_from, records_of, end_of, joined, record_of, decoded}
+
+pub records_from-step : (n : ℕ) (xs : List ℕ) (at : ℕ) → 0 < n
+    → records_from n xs at ≡ record_at xs at ∷ records_from (n - 1) xs (at + 8)
+unfolding records_from
+records_from-step zero xs at h = absurd (omega arith)
+records_from-step (suc n) xs at h = let e : suc n - 1 ≡ n = omega arith in rw e
+
+pub length-records_from : (n : ℕ) (xs : List ℕ) (at : ℕ) → length (records_from n xs at) ≡ n
+unfolding records_from
+length-records_from zero xs at = refl
+length-records_from (suc n) xs at = ap suc (length-records_from n xs (at + 8))
 
 pub length-record_at : (xs : List ℕ) (at : ℕ) → at + 8 ≤ length xs → length (record_at xs at) ≡ 8
 length-record_at xs at h = simp (length-take, length-drop) (omega arith)
