@@ -51,7 +51,7 @@ edge_record_lem : (x : EdgeRecord) → One (λ r. EdgeIs x r)
 edge_record_lem x r s h k = h.is ∙ sym k.is
 
 writes : (t : Text) (bytes : List ℕ) → OneText (λ r. Writes t bytes r)
-writes t bytes r s h k = (h.wrote.next ∙ sym k.wrote.next, h.wrote.memory ∙ sym k.wrote.memory)
+writes t bytes r s h k = (h.wrote.next ∙ sym k.wrote.next, h.wrote.memory ∙ sym k.wrote.memory, h.lent ∙ sym k.lent)
 
 -- ---- the functions
 of_wire : OfWire
@@ -59,7 +59,7 @@ of_wire =
     record {
       byte_at = byte;
       le16 = λ xs at. number _ _;
-      pair = λ xs at there. number _ _;
+      pair = λ low high. number _ _;
       le32 = λ xs at. number _ _;
       put_byte = λ d at b. fixed _;
       put16 = λ d at v. fixed _;

@@ -121,9 +121,9 @@ wire_le16 : (κs : Lfts 1) (a : Dens κs wire-le16-kinds.ps) (r s : ℕ) (e f : 
     → wire-le16-reads.Learnt κs a r e → wire-le16-reads.Learnt κs a s f → r ≡ s
 wire_le16 κs a r s e f h k = determined.of_wire.le16 a.0.now a.1.0 r s h k
 
-wire_pair : (κs : Lfts 1) (a : Dens κs wire-pair-kinds.ps) (r s : ℕ) (e f : _) → wire-pair-reads.Asked κs a
+wire_pair : (κs : Lfts 0) (a : Dens κs wire-pair-kinds.ps) (r s : ℕ) (e f : _)
     → wire-pair-reads.Learnt κs a r e → wire-pair-reads.Learnt κs a s f → r ≡ s
-wire_pair κs a r s e f q h k = determined.of_wire.pair a.0.now a.1.0 q r s h k
+wire_pair κs a r s e f h k = determined.of_wire.pair a.0 a.1.0 r s h k
 
 wire_le32 : (κs : Lfts 1) (a : Dens κs wire-le32-kinds.ps) (r s : ℕ) (e f : _)
     → wire-le32-reads.Learnt κs a r e → wire-le32-reads.Learnt κs a s f → r ≡ s
@@ -252,35 +252,43 @@ lists_group : (κs : Lfts 0) (a : Dens κs lists-group-kinds.ps) (r s : ℕ) (e 
 lists_group κs a r s e f h k = determined.of_lists.group a.0 r s h k
 
 lists_put_header : (κs : Lfts 2) (a : Dens κs lists-put-header-kinds.ps) (r s e f : _)
-    → lists-put-header-reads.Learnt κs a r e → lists-put-header-reads.Learnt κs a s f → (e.0.now.at ≡ f.0.now.at) × (e.0.now.out.now ≡ f.0.now.out.now)
+    → lists-put-header-reads.Learnt κs a r e → lists-put-header-reads.Learnt κs a s f
+    → (e.0.now.at ≡ f.0.now.at) × (e.0.now.out.now ≡ f.0.now.out.now) × (e.0.now.out.ghost_name ≡ f.0.now.out.ghost_name)
 lists_put_header κs a r s e f h k = determined.of_lists.put_header a.0.now e.0.now f.0.now h k
 
 lists_put_line : (κs : Lfts 2) (a : Dens κs lists-put-line-kinds.ps) (r s e f : _)
-    → lists-put-line-reads.Learnt κs a r e → lists-put-line-reads.Learnt κs a s f → (e.0.now.at ≡ f.0.now.at) × (e.0.now.out.now ≡ f.0.now.out.now)
+    → lists-put-line-reads.Learnt κs a r e → lists-put-line-reads.Learnt κs a s f
+    → (e.0.now.at ≡ f.0.now.at) × (e.0.now.out.now ≡ f.0.now.out.now) × (e.0.now.out.ghost_name ≡ f.0.now.out.ghost_name)
 lists_put_line κs a r s e f h k = determined.of_lists.put_line a.0.now a.1.0 a.1.1.0 a.1.1.1.0 a.1.1.1.1.0 e.0.now f.0.now h k
 
 lists_put_lines : (κs : Lfts 4) (a : Dens κs lists-put-lines-kinds.ps) (r s e f : _)
-    → lists-put-lines-reads.Learnt κs a r e → lists-put-lines-reads.Learnt κs a s f → (e.0.now.at ≡ f.0.now.at) × (e.0.now.out.now ≡ f.0.now.out.now)
+    → lists-put-lines-reads.Learnt κs a r e → lists-put-lines-reads.Learnt κs a s f
+    → (e.0.now.at ≡ f.0.now.at) × (e.0.now.out.now ≡ f.0.now.out.now) × (e.0.now.out.ghost_name ≡ f.0.now.out.ghost_name)
 lists_put_lines κs a r s e f h k = determined.of_lists.put_lines a.0.now a.1.0.now a.1.1.0.now e.0.now f.0.now h k
 
 lists_put_last : (κs : Lfts 2) (a : Dens κs lists-put-last-kinds.ps) (r s e f : _)
-    → lists-put-last-reads.Learnt κs a r e → lists-put-last-reads.Learnt κs a s f → (e.0.now.at ≡ f.0.now.at) × (e.0.now.out.now ≡ f.0.now.out.now)
+    → lists-put-last-reads.Learnt κs a r e → lists-put-last-reads.Learnt κs a s f
+    → (e.0.now.at ≡ f.0.now.at) × (e.0.now.out.now ≡ f.0.now.out.now) × (e.0.now.out.ghost_name ≡ f.0.now.out.ghost_name)
 lists_put_last κs a r s e f h k = determined.of_lists.put_last a.0.now a.1.0 a.1.1.0 e.0.now f.0.now h k
 
 lists_put_refused : (κs : Lfts 2) (a : Dens κs lists-put-refused-kinds.ps) (r s e f : _)
-    → lists-put-refused-reads.Learnt κs a r e → lists-put-refused-reads.Learnt κs a s f → (e.0.now.at ≡ f.0.now.at) × (e.0.now.out.now ≡ f.0.now.out.now)
+    → lists-put-refused-reads.Learnt κs a r e → lists-put-refused-reads.Learnt κs a s f
+    → (e.0.now.at ≡ f.0.now.at) × (e.0.now.out.now ≡ f.0.now.out.now) × (e.0.now.out.ghost_name ≡ f.0.now.out.ghost_name)
 lists_put_refused κs a r s e f h k = determined.of_lists.put_refused a.0.now a.1.0 a.1.1.0 e.0.now f.0.now h k
 
 lists_put-byte : (κs : Lfts 2) (a : Dens κs lists-put-byte-kinds.ps) (r s e f : _)
-    → lists-put-byte-reads.Learnt κs a r e → lists-put-byte-reads.Learnt κs a s f → (e.0.now.at ≡ f.0.now.at) × (e.0.now.out.now ≡ f.0.now.out.now)
+    → lists-put-byte-reads.Learnt κs a r e → lists-put-byte-reads.Learnt κs a s f
+    → (e.0.now.at ≡ f.0.now.at) × (e.0.now.out.now ≡ f.0.now.out.now) × (e.0.now.out.ghost_name ≡ f.0.now.out.ghost_name)
 lists_put-byte κs a r s e f h k = determined.of_lists.put_byte a.0.now a.1.0 e.0.now f.0.now h k
 
 lists_put_bytes : (κs : Lfts 3) (a : Dens κs lists-put-bytes-kinds.ps) (r s e f : _)
-    → lists-put-bytes-reads.Learnt κs a r e → lists-put-bytes-reads.Learnt κs a s f → (e.0.now.at ≡ f.0.now.at) × (e.0.now.out.now ≡ f.0.now.out.now)
+    → lists-put-bytes-reads.Learnt κs a r e → lists-put-bytes-reads.Learnt κs a s f
+    → (e.0.now.at ≡ f.0.now.at) × (e.0.now.out.now ≡ f.0.now.out.now) × (e.0.now.out.ghost_name ≡ f.0.now.out.ghost_name)
 lists_put_bytes κs a r s e f h k = determined.of_lists.put_bytes a.0.now a.1.0.now e.0.now f.0.now h k
 
 lists_put-decimal : (κs : Lfts 2) (a : Dens κs lists-put-decimal-kinds.ps) (r s e f : _)
-    → lists-put-decimal-reads.Learnt κs a r e → lists-put-decimal-reads.Learnt κs a s f → (e.0.now.at ≡ f.0.now.at) × (e.0.now.out.now ≡ f.0.now.out.now)
+    → lists-put-decimal-reads.Learnt κs a r e → lists-put-decimal-reads.Learnt κs a s f
+    → (e.0.now.at ≡ f.0.now.at) × (e.0.now.out.now ≡ f.0.now.out.now) × (e.0.now.out.ghost_name ≡ f.0.now.out.ghost_name)
 lists_put-decimal κs a r s e f h k = determined.of_lists.put-decimal a.0.now a.1.0 e.0.now f.0.now h k
 
 -- ---- the clause itself: x' is an argument x at entry and at exit

@@ -3,19 +3,18 @@
 -- and numbers: two outcomes that meet the contract are equal. That it is the source's contract is proved in proofs/, `Tied`.
 --   One P               at most one answer meets the contract P
 --   OneBoth P           at most one answer, with one memory at exit, meets it
---   OneText P           at most one text at exit meets it
+--   OneText P           at most one text at exit meets it, in one buffer, the one that was lent: a reference is named by
+--                       its ghost name
 --   Opened .. NextIs    the contracts of the open image, of its methods and of a walk's
 --   OfWire .. OfLists   the public functions of a crate
 --   Determined          THE STATEMENT: all of them. The face and the program take a field each here.
 -- A lent slice that is not `&mut` cannot change, and so no contract speaks of it at exit.
 -- Exceptions:
---   wire::pair          requires that both bytes are there. Where they are, its answer is fixed, and it is that of `wire::le16`,
---                       which asks nothing. It is there for speed.
 --   Table::lead_rising  requires that the state's events rise. Where they do, its answer is fixed; of any other input its
 --                       contract says nothing. It is there for speed: `Table::lead` asks nothing and is fixed for every input.
 --   lists::part         fixed are the bytes of the part returned, not its address. Where in the log it stands is what
 --                       `part_answer` says, and that is fixed.
-use Rattle.std.specs.Prelude.{◌≡◌, List, [], ◌∷◌, ℕ, ◌+◌, ◌<◌, length, set, Option, Result}
+use Rattle.std.specs.Prelude.{◌≡◌, List, [], ◌∷◌, ℕ, ◌+◌, ◌*◌, length, set, Option, Result}
 use Rattle.std.specs.Borrow.{Bor}
 use Rattle.wire.specs.Little.{ByteIs, NumberIs, le16_at, le32_at, put16_at, put32_at}
 use Rattle.meaning.specs.Book.{outs, marks}
@@ -47,15 +46,16 @@ One {A} P = (r s : A) → P r → P s → r ≡ s
 abbrev pub OneBoth : {A : Type 0} → (A → List ℕ → Type 0) → Type 0
 OneBoth {A} P = (r s : A) (m n : List ℕ) → P r m → P s n → (r ≡ s) × (m ≡ n)
 
--- a text at exit: its buffer, and the place after what was written
+-- a text at exit: the place after what was written, what its buffer holds, and which buffer that is
 abbrev pub OneText : (Text → Type 0) → Type 0
-OneText P = (r s : Text) → P r → P s → (r.at ≡ s.at) × (r.out.now ≡ s.out.now)
+OneText P =
+    (r s : Text) → P r → P s → (r.at ≡ s.at) × (r.out.now ≡ s.out.now) × (r.out.ghost_name ≡ s.out.ghost_name)
 
 -- a writer has no answer: its outcome is the memory at exit
 pub record OfWire : Type 0 where
   pub byte_at : (xs : List ℕ) (at : ℕ) → One (λ r. ByteIs xs at r)
   pub le16 : (xs : List ℕ) (at : ℕ) → One (λ r. NumberIs (le16_at xs at) 65536 r)
-  pub pair : (xs : List ℕ) (at : ℕ) → at + 1 < length xs → One (λ r. NumberIs (le16_at xs at) 65536 r)
+  pub pair : (low high : ℕ) → One (λ r. NumberIs (low + 256 * high) 65536 r)
   pub le32 : (xs : List ℕ) (at : ℕ) → One (λ r. NumberIs (le32_at xs at) 4294967296 r)
   pub put_byte : (d : List ℕ) (at b : ℕ) → One (λ d'. d' ≡ set d at b)
   pub put16 : (d : List ℕ) (at v : ℕ) → One (λ d'. d' ≡ put16_at d at v)

@@ -1,7 +1,7 @@
 // Little-endian numbers in bytes: reading past the end gives 0, writing past the end changes nothing.
 #![tactic(auto)]
 
-ghost use Rattle.std.specs.Prelude.{◌≡◌, ◌+◌, ◌*◌, set};
+ghost use Rattle.std.specs.Prelude.{◌≡◌, ◌+◌, ◌*◌, ◌<◌, length, set};
 ghost use Rattle.wire.specs.Little.{ByteIs, NumberIs, le16_at, le32_at, put16_at, put32_at};
 
 // The byte at a place, 0 past the end.
@@ -19,12 +19,20 @@ pub fn pair(low: u8, high: u8) -> usize
     usize::from(u16::from_le_bytes([low, high]))
 }
 
+// Two bytes that are both there. A function of its own, as in the branch of `le16` the compiler would read them one by one.
+fn both(s: &[u8], at: usize) -> usize
+    requires { at + 1 < length s.now }
+    ensures { NumberIs (le16_at s.now at) 65536 result }
+{
+    pair(s[at], s[at + 1])
+}
+
 pub fn le16(s: &[u8], at: usize) -> usize
     ensures { NumberIs (le16_at s.now at) 65536 result }
 {
     if at < s.len() {
         if at + 1 < s.len() {
-            pair(s[at], s[at + 1])
+            both(s, at)
         } else {
             byte_at(s, at)
         }
