@@ -26,16 +26,6 @@ fn fill_root(image: AcceptedImage, root: &mut [u16; 256])
     }
 }
 
-// Which events stay at place 0. `root` says so too, but an event that stays there takes 7.8 instructions with a byte
-// that is compared where it stands, and 8.8 with a number of `root`, which is loaded first.
-fn fill_quiet(root: &[u16; 256], quiet: &mut [bool; 256])
-    ensures { (a : ℕ) → a < 256 → get_or quiet.new a false ≡ true → get_or root.now a 0 ≡ 0 }
-{
-    for a in 0..256 {
-        quiet[a] = root[a] == 0;
-    }
-}
-
 // For each place in one number: the next place that reports, the level and the mark, these where a record has them, so
 // that it is written by one store.
 fn fill_packed(image: AcceptedImage, packed: &mut [usize; 1024])
@@ -51,19 +41,18 @@ fn fill_packed(image: AcceptedImage, packed: &mut [usize; 1024])
 
 // ---- the run
 
-// What stays the same while a run goes. It is passed by value, as behind a reference the compiler reads the image's
-// counts anew at every event (94.7 instructions an event of a wide image, and 87.8 by value).
+// What stays the same while a run goes. To its events it is passed by value, as behind a reference the compiler reads the
+// image's counts anew at every event (94.7 instructions an event of a wide image, and 87.8 by value); to the parts of a
+// walk by reference, as each copy costs a short run some 16 instructions.
 #[derive(Clone, Copy)]
 struct Runner<'a> {
     image: AcceptedImage<'a>,
     root: &'a [u16; 256],
-    quiet: &'a [bool; 256],
     packed: &'a [usize; 1024],
     room: usize,
     base: usize,
     log: &'a [u8],
     ghost rooted: { IsRoot (questions_of image) root.now },
-    ghost quieted: { (a : ℕ) → a < 256 → get_or quiet.now a false ≡ true → get_or root.now a 0 ≡ 0 },
     ghost linked: { IsPacked image.bytes.now image.places packed.now },
     ghost short: { base + length log.now < 4294967296 },
 }
@@ -103,7 +92,7 @@ impl<'a> Runner<'a> {
         requires { event < 256 }
         ensures { result ≡ true → Idle self.entry.root.now place event }
     {
-        place == 0 && self.quiet[event]
+        place == 0 && self.root[event] == 0
     }
 
     // ---- its records
@@ -171,7 +160,10 @@ impl<'a> Runner<'a> {
         }
     }
 
-    // The events up to a number of them, each by a function that finds its move.
+    // The events up to a number of them, each by a function that finds its move. `inline(always)`: it is then optimized
+    // once, with the function in it. Twice, the number of an event is kept doubled for the second look into `root`, which
+    // takes an event that stays at place 0 from 7.7 instructions to 8.7.
+    #[inline(always)]
     fn carry<F: Fn(usize, usize) -> Moved>(
         self,
         moved: F,
@@ -185,7 +177,18 @@ impl<'a> Runner<'a> {
         requires moves { (p a : ℕ) (r : Moved) → p < self.image.places → a < 256 → F.post moved p a r → LeadsIn self p a r }
         ensures { CarriedInTo self.entry until out.old from out.new result }
     {
-        let mut g = from;
+        if from.full {
+            return from;
+        }
+        // field by field: with the struct its padding is copied too, in parts that the next part of the walk reads back
+        // as others, and waits for
+        let mut g = Going {
+            taken: from.taken,
+            place: from.place,
+            records: from.records,
+            steps: from.steps,
+            full: false,
+        };
         // a `while` on the events taken, which `turn` counts where there is room for the records: a `for` over the log
         // would count them a second time
         while !g.full && g.taken < until {
@@ -199,18 +202,19 @@ impl<'a> Runner<'a> {
         g
     }
 
-    fn by_search(self, until: usize, out: &mut [u8], from: Going) -> Going
-        requires { ReadyIn self out.old from × (until ≤ length self.log.now) }
-        ensures { CarriedInTo self.entry until out.old from out.new result }
+    fn by_search(&self, until: usize, out: &mut [u8], from: Going) -> Going
+        requires { ReadyIn self.now out.old from × (until ≤ length self.now.log.now) }
+        ensures { CarriedInTo self.now until out.old from out.new result }
     {
-        self.carry(|p, a| self.step(p, a), until, out, from)
+        let runner = *self;
+        runner.carry(|p, a| runner.step(p, a), until, out, from)
     }
 
     // To the end of the log by a table of every step, where the image's steps fit into it. It takes 128 KiB of the
     // stack.
-    fn tabled(self, out: &mut [u8], from: Going) -> Going
-        requires { ReadyIn self out.old from }
-        ensures { CarriedInTo self.entry (length self.entry.log.now) out.old from out.new result }
+    fn tabled(&self, out: &mut [u8], from: Going) -> Going
+        requires { ReadyIn self.now out.old from }
+        ensures { CarriedInTo self.now (length self.now.log.now) out.old from out.new result }
     {
         let end = self.log.len();
         let classes = Classes::new(self.image);
@@ -229,9 +233,9 @@ impl<'a> Runner<'a> {
 
     // To the end of the log. Whether the table pays is asked early, and again after a quarter. As `tabled` is called at
     // two places, the compiler leaves it apart, and a run that goes without it does not take its stack.
-    fn walk(self, out: &mut [u8], from: Going) -> Going
-        requires { ReadyIn self out.old from }
-        ensures { CarriedInTo self.entry (length self.entry.log.now) out.old from out.new result }
+    fn walk(&self, out: &mut [u8], from: Going) -> Going
+        requires { ReadyIn self.now out.old from }
+        ensures { CarriedInTo self.now (length self.now.log.now) out.old from out.new result }
     {
         let end = self.log.len();
         let g = self.by_search(end.min(2048), out, from);
@@ -285,14 +289,11 @@ pub(crate) fn run(
     // one event takes a tenth longer
     let mut root = [0; 256];
     fill_root(image, &mut root);
-    let mut quiet = [false; 256];
-    fill_quiet(&root, &mut quiet);
     let mut packed = [0; 1024];
     fill_packed(image, &mut packed);
     let runner = Runner {
         image,
         root: &root,
-        quiet: &quiet,
         packed: &packed,
         room: out.len() / 8,
         base,
