@@ -1,7 +1,8 @@
 -- The edge records of a place are written from those of lower places. `Known`: what the image has for a walk over the
 -- places below p; `known_start`, `known_edges`, `known_kept`: it does have it. `Walking`: the walk down the fallbacks,
--- to what an event makes of the rest of a chain. `after_found`, `after-rest`, `after_either`: the place after an event. `edges_some`,
--- `edges_none`, `edges_own`: the edges of a state in the book. `Rowing`: the row of place 0. Assumes nothing.
+-- to what an event makes of the rest of a chain. `after_found`, `after-rest`, `after_either`: the place after an event.
+-- `edges_some`, `edges_none`, `edges_own`: the edges of a state in the book. `Rowing`: the row of place 0. Assumes
+-- nothing.
 use mathlib.Core.Path.{◌≡◌, refl, sym, ap, ◌∙◌, subst}
 use mathlib.Core.Logic.{◌≢◌}
 use mathlib.Core.Bool.{false}

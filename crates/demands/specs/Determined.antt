@@ -3,8 +3,8 @@
 -- and numbers: two outcomes that meet the contract are equal. That it is the source's contract is proved in proofs/, `Tied`.
 --   One P               at most one answer meets the contract P
 --   OneBoth P           at most one answer, with one memory at exit, meets it
---   OneText P           at most one text at exit meets it, in one buffer, the one that was lent: a reference is named by
---                       its ghost name
+--   OneText P           at most one text at exit meets it, in one buffer: a reference is told by its ghost name, and
+--                       `Writes` says that it is that of the one that was lent
 --   Opened .. NextIs    the contracts of the open image, of its methods and of a walk's
 --   OfWire .. OfLists   the public functions of a crate
 --   Determined          THE STATEMENT: all of them. The face and the program take a field each here.

@@ -41,9 +41,9 @@ fn fill_packed(image: AcceptedImage, packed: &mut [usize; 1024])
 
 // ---- the run
 
-// What stays the same while a run goes. To its events it is passed by value, as behind a reference the compiler reads the
-// image's counts anew at every event (94.7 instructions an event of a wide image, and 87.8 by value); to the parts of a
-// walk by reference, which spares each run the copies, some 20 instructions.
+// What stays the same while a run goes. What takes events is passed it by value, as behind a reference the compiler reads
+// the image's counts anew at every event (94.7 instructions an event of a wide image, and 87.8 by value). The parts of a
+// walk are passed it by reference, which spares each run the copies, some 20 instructions.
 #[derive(Clone, Copy)]
 struct Runner<'a> {
     image: AcceptedImage<'a>,
@@ -160,9 +160,9 @@ impl<'a> Runner<'a> {
         }
     }
 
-    // The events up to a number of them, each by a function that finds its move. `inline(always)`: it is then optimized
-    // once, with the function in it. Twice, the number of an event is kept doubled for the second look into `root`, which
-    // takes an event that stays at place 0 from 7.7 instructions to 8.7.
+    // The events up to a number of them, each by a function that finds its move. `inline(always)`, so that the compiler
+    // works on the loop once, with the function already in it. Else it does so before as well, keeps the place in `root`
+    // of an event for both looks, and an event that stays at place 0 takes 8.7 instructions in place of 7.7.
     #[inline(always)]
     fn carry<F: Fn(usize, usize) -> Moved>(
         self,
