@@ -1,12 +1,13 @@
 -- One event over an accepted image, on plain values.
 --   found_below         an edge that is found is one of the edges
+--   found_or            the number of an edge, or one that stands for none, says which is found
 --   Moving              the invariant: the walk from place p with n failure steps behind it
 --   idle_next           an event that stays at place 0
 --   move_fail, move_edge, move_root  the turns of the loop, and its ends
 -- Assumes nothing.
-use mathlib.Core.Path.{◌≡◌, sym, ap, ◌∙◌}
+use mathlib.Core.Path.{◌≡◌, refl, sym, ap, ◌∙◌}
 use mathlib.Core.Logic.{◌≢◌}
-use Rattle.std.specs.Prelude.{Option, None, Some}
+use Rattle.std.specs.Prelude.{Option, None, Some, unwrap_or}
 use mathlib.Core.List.{List}
 use Prim.Native.Nat.{ℕ, suc, ◌+◌, ◌≤◌, ◌<◌}
 use native.Mathlib.Omega.{arith}
@@ -32,6 +33,14 @@ module _ (xs : List ℕ) (q : ℕ) where
     pub place : (next M p₀ a).place ≡ (next M p a).place
     pub steps : (next M p₀ a).failed ≡ n + (next M p a).failed
 
+-- an Option of numbers below n, with n for none
+or_is : (o : Option ℕ) (n j : ℕ) → ((i : ℕ) → o ≡ Some i → i < n) → j ≡ unwrap_or o n
+    → (j ≢ n → o ≡ Some j) × (j ≡ n → o ≡ None)
+or_is None n j h e = (λ g. absurd (g e), λ g. refl)
+or_is (Some i) n j h e =
+    let k = h i refl in
+    (λ g. ap (λ (x : ℕ). Some x) (sym e), λ g. absurd (let w : ⊥ = omega arith in w))
+
 module _ (xs : List ℕ) (q t : ℕ) (F : Facts xs q t) where
   abbrev N : Image
   N = questions_at form1 xs q
@@ -41,6 +50,14 @@ module _ (xs : List ℕ) (q t : ℕ) (F : Facts xs q t) where
       let l = (seek_found (edge_at form1 xs q) a _ _ j e).1 in
       let i = F.inside p b in
       omega arith
+
+  -- the number that the run has for none is no edge's
+  pub found_or : (p a : ℕ) (o : Option ℕ) (j : ℕ) → p < q → o ≡ N.find p a → j ≡ unwrap_or o 4294967295
+      → (j ≢ 4294967295 → N.find p a ≡ Some j) × (j ≡ 4294967295 → N.find p a ≡ None)
+  found_or p a o j b s e =
+      let few = F.few_edges in
+      or_is (N.find p a) 4294967295 j (λ i f. let l = found_below p a i b f in omega arith)
+      (e ∙ ap (λ (x : Option ℕ). unwrap_or x 4294967295) s)
 
   -- no edge: on to the fallback, with one failure step more
   pub move_fail : (p₀ a p n f : ℕ) → Moving xs q p₀ a p n → p ≢ 0 → N.find p a ≡ None → f ≡ N.fallback p

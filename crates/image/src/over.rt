@@ -41,6 +41,9 @@ fn fill_packed(image: AcceptedImage, packed: &mut [usize; 1024])
 
 // ---- the run
 
+// A number that no edge has.
+const NONE: usize = 4294967295;
+
 // What stays the same while a run goes. What takes events is passed it by value, as behind a reference the compiler reads
 // the image's counts anew at every event (94.7 instructions an event of a wide image, and 87.8 by value). The parts of a
 // walk are passed it by reference, which spares each run the copies, some 20 instructions.
@@ -72,7 +75,9 @@ impl<'a> Runner<'a> {
         let mut steps = 0;
         // a `while`, as it goes from fallback to fallback and not by an index
         while p != 0 {
-            if let Some(j) = image.find(p, event) {
+            // asked by its number: of an Option each end of the search goes on by itself, which takes a twentieth more
+            let j = image.find(p, event).unwrap_or(NONE);
+            if j != NONE {
                 return Moved {
                     place: image.target(j),
                     steps,

@@ -1,27 +1,32 @@
-use Rattle.image.proofs.Move.{found_below, move_fail, move_edge, move_root}
+use Rattle.image.proofs.Move.{found_below, found_or, move_fail, move_edge, move_root}
 use Rattle.image.proofs.Accepted.{facts_of}
-use mathlib.Core.Path.{sym, ◌∙◌}
 use Rattle.image.proofs.over.Runner.step.Goals as goal
 
 pub target-requires : goal.target-requires
 target-requires c =
-    found_below _ _ _ (facts_of c.args.self.image.accepted) _ _ _ c.loop-p.invariant.below
-    (sym c.find.ensures ∙ c.in-Some.is)
+    let F = facts_of c.args.self.image.accepted in
+    let b = c.loop-p.invariant.below in
+    found_below _ _ _ F _ _ _ b ((found_or _ _ _ F _ _ _ _ b c.find.ensures c.unwrap_or-j.ensures).0 c.if-j-ne-NONE.true)
 
-pub returns-in-Some : goal.returns-in-Some
-returns-in-Some c =
-    move_edge _ _ _ (facts_of c.args.self.image.accepted) _ _ _ _ _ _ c.loop-p.invariant
-    (sym c.find.ensures ∙ c.in-Some.is) c.target.ensures.is
+pub returns-then-j-ne-NONE : goal.returns-then-j-ne-NONE
+returns-then-j-ne-NONE c =
+    let F = facts_of c.args.self.image.accepted in
+    let s = found_or _ _ _ F _ _ _ _ c.loop-p.invariant.below c.find.ensures c.unwrap_or-j.ensures in
+    move_edge _ _ _ F _ _ _ _ _ _ c.loop-p.invariant (s.0 c.if-j-ne-NONE.true) c.target.ensures.is
 
 pub loop-p-smaller : goal.loop-p-smaller
 loop-p-smaller c =
-    (move_fail _ _ _ (facts_of c.args.self.image.accepted) _ _ _ _ _ c.loop-p.invariant c.loop-p-test.true
-    (sym c.find.ensures ∙ c.in_default.is) c.fallback-p.ensures.is).0
+    let F = facts_of c.args.self.image.accepted in
+    let s = found_or _ _ _ F _ _ _ _ c.loop-p.invariant.below c.find.ensures c.unwrap_or-j.ensures in
+    (move_fail _ _ _ F _ _ _ _ _ c.loop-p.invariant c.loop-p-test.true (s.1 c.if-j-ne-NONE.false)
+    c.fallback-p.ensures.is).0
 
 pub loop-p-preserved : goal.loop-p-preserved
 loop-p-preserved c =
-    (move_fail _ _ _ (facts_of c.args.self.image.accepted) _ _ _ _ _ c.loop-p.invariant c.loop-p-test.true
-    (sym c.find.ensures ∙ c.in_default.is) c.fallback-p.ensures.is).1
+    let F = facts_of c.args.self.image.accepted in
+    let s = found_or _ _ _ F _ _ _ _ c.loop-p.invariant.below c.find.ensures c.unwrap_or-j.ensures in
+    (move_fail _ _ _ F _ _ _ _ _ c.loop-p.invariant c.loop-p-test.true (s.1 c.if-j-ne-NONE.false)
+    c.fallback-p.ensures.is).1
 
 pub returns : goal.returns
 returns c =
